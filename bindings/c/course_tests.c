@@ -83,6 +83,60 @@ static void a_course_of_two_subplans(void) {
     drop_course(course);
 }
 
+/* Courses of many numbers are alike. From a plan to itself nothing moves. */
+static void courses_of_many_numbers(void) {
+    static const uint32_t NUMBERS[] = {1, 2, 7, UINT32_MAX};
+    for (size_t i = 0; i < sizeof NUMBERS / sizeof NUMBERS[0]; i++) {
+        squall_course *course = course_of(NUMBERS[i], OLD, NEW);
+        squall_move moves[3];
+        squall_leg legs[8];
+        CHECK(squall_course_number(course) == NUMBERS[i] && squall_course_moves(course, 0, moves, 3) == 2);
+        CHECK(squall_course_old(course, 0, legs, 8) == 4 && is_leg(legs[0], 0, key(3), 1));
+        CHECK(squall_course_new(course, 0, legs, 8) == 5 && is_leg(legs[0], 0, key(2), 1));
+        drop_course(course);
+        course = course_of(NUMBERS[i], OLD, OLD);
+        CHECK(squall_course_number(course) == NUMBERS[i]);
+        CHECK(squall_course_moves(course, 0, moves, 3) == 0 && squall_course_subplans(course) == 0);
+        drop_course(course);
+    }
+}
+
+enum { RANGES = 4096 };
+
+/* The text of 4096 ranges of one root each, the last of all that is left, by falling key: of the partition `first`, the
+ * one after it and so on. */
+static char *falling_ranges(uint32_t first) {
+    char *text = (char *)room_of(RANGES * 64);
+    char *end = text + sprintf(text, "{\"plan\":[");
+    for (uint32_t i = RANGES; i-- > 0;) {
+        end += sprintf(end, "{\"part\":%u,\"from\":[%u,0],\"to\":", first + i, i);
+        end += i + 1 == RANGES ? sprintf(end, "\"end\"},") : sprintf(end, "[%u,0]}%s", i + 1, i == 0 ? "]}" : ",");
+    }
+    return text;
+}
+
+/* Each of 4096 ranges goes to another partition, all in one sub-plan. */
+static void ranges_of_4096_move_on(void) {
+    static squall_leg legs[RANGES];
+    static squall_move moves[RANGES];
+    static uint32_t parts[RANGES];
+    char *old = falling_ranges(1000);
+    char *new_plan = falling_ranges(1001);
+    squall_course *course = course_of(1, old, new_plan);
+    CHECK(squall_course_status(course) == SQUALL_OK);
+    CHECK(squall_course_old(course, 0, legs, RANGES) == RANGES && squall_course_subplans(course) == 1);
+    CHECK(squall_course_moves(course, 0, moves, RANGES) == RANGES);
+    CHECK(squall_course_receivers(course, 0, 0, parts, RANGES) == RANGES);
+    for (uint32_t i = 0; i < RANGES; i++) {
+        uint64_t hi = i + 1 == RANGES ? SQUALL_TOP : key(i + 1);
+        CHECK(is_leg(legs[i], key(i), hi, 1000 + i) && parts[i] == 1001 + i);
+        CHECK(is_move(moves[i], key(i), hi, 1000 + i, 1001 + i, 0));
+    }
+    drop_course(course);
+    free(old);
+    free(new_plan);
+}
+
 static void answers_from_a_place_on(void) {
     squall_course *course = course_of(1, OLD, NEW);
     squall_move moves[2] = {{7, 7, 7, 7, 7}, {7, 7, 7, 7, 7}};
@@ -247,6 +301,10 @@ static void plans_as_texts(void) {
     static const char *const OLD_TEXT =
         "{\"plan\":[{\"from\":[0,0],\"part\":1,\"to\":[3,0]},{\"from\":[3,0],\"part\":2,\"to\":[5,0]},"
         "{\"from\":[5,0],\"part\":3,\"to\":[9,0]},{\"from\":[9,0],\"part\":4,\"to\":\"end\"}]}";
+    static const char *const NEW_TEXT =
+        "{\"plan\":[{\"from\":[0,0],\"part\":1,\"to\":[2,0]},{\"from\":[2,0],\"part\":3,\"to\":[3,0]},"
+        "{\"from\":[3,0],\"part\":2,\"to\":[5,0]},{\"from\":[5,0],\"part\":3,\"to\":[6,0]},"
+        "{\"from\":[6,0],\"part\":4,\"to\":\"end\"}]}";
     squall_course *course = course_of(1, OLD, NEW);
     char old_text[512];
     char new_text[512];
@@ -256,7 +314,7 @@ static void plans_as_texts(void) {
     CHECK(squall_course_old_text(course, (uint8_t *)old_text, sizeof old_text) == old_len);
     CHECK(memcmp(old_text, OLD_TEXT, old_len) == 0 && old_text[old_len] == 7);
     size_t new_len = squall_course_new_text(course, (uint8_t *)new_text, sizeof new_text);
-    CHECK(new_len < sizeof new_text);
+    CHECK(new_len == strlen(NEW_TEXT) && memcmp(new_text, NEW_TEXT, new_len) == 0);
     old_text[old_len] = 0;
     new_text[new_len] = 0;
     squall_course *again = course_of(1, old_text, new_text);
@@ -380,6 +438,8 @@ static void places_without_a_view(void) {
 static const struct test TESTS[] = {
     TEST(the_course_of_the_examples),
     TEST(a_course_of_two_subplans),
+    TEST(courses_of_many_numbers),
+    TEST(ranges_of_4096_move_on),
     TEST(answers_from_a_place_on),
     TEST(courses_that_are_none),
     TEST(courses_of_a_router),

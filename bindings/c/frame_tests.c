@@ -37,12 +37,146 @@ static const char DONE[] = "5351010100000019000000000000000100000001000000000000
 static const char OPENED_CLASH[] = "535102010000001900000001000000010000000400000001000000010200000000";
 static const char ISSUED[] = "535102010000003900000001000000010000000100000001000000010100000001ffffffff000000000000000100000001"
                              "ffffffff000000000000000200000000";
+/* Each kind of item. Course 1 has 10,000 openings and the greatest number 2. Course 1 leads from partition 1, which has
+ * all keys, to partition 2, and number 2 is a clash. The cells are that of the load, and the completion of partition
+ * 9999 in sub-plan 9999 of the greatest number. */
+static const char EACH[] = "5351020100000078000000020000000100002710ffffffff0000000200000002000000010100000001ffffff"
+                           "ff000000000000000100000001ffffffff000000000000000200000002020000000200000001000000000000"
+                           "0003000000000100000002000000000000000300000000ffffffff0000270f0000270f0100000000";
+/* Two cells; a cell that is done, with two spans; an opening and two clashes; an issue of two ranges each. */
+static const char TWO_CELLS[] = "535101010000003a000000000000000200000001000000000000000300000000010000000200000000000000"
+                               "03000000000000000100000000000000040100000000";
+static const char TWO_SPANS[] = "5351010100000039000000000000000100000001000000000000000301000000020000000200000000000000"
+                               "020000000700000002000000080000000300000000";
+static const char TWO_CLASHES[] = "535102010000001e000000010000000100000001000000020000000202000000030200000000";
+static const char TWO_RANGES[] = "53510201000000490000000000000001000000010100000002000000030000000000000001ffffffff000000"
+                               "000000000200000002000000020000000000000003ffffffff000000000000000100000000";
+
 static void what_is_heard_comes_back(void) {
-    const char *const frames[] = {LOAD, DONE, OPENED_CLASH, ISSUED};
+    const char *const frames[] = {LOAD, DONE, OPENED_CLASH, ISSUED, EACH, TWO_CELLS, TWO_SPANS, TWO_CLASHES, TWO_RANGES};
     for (size_t i = 0; i < sizeof frames / sizeof frames[0]; i++) {
         squall_router *router = router_told(frames[i]);
         CHECK(squall_router_gather_board(router, SQUALL_NO_LIMIT) == SQUALL_OK);
         CHECK(next_is(router, frames[i]) && next_is(router, ""));
+        drop_router(router);
+    }
+}
+
+/* ---- bytes that are no frame */
+
+static const struct fault {
+    const char *hex;
+    uint32_t fault;
+} FAULTS[] = {
+    /* Heads. */
+    {"00", SQUALL_FRAME_MAGIC},
+    {"535103", SQUALL_FRAME_VERSION},
+    {"53510001000000080000000000000000", SQUALL_FRAME_VERSION},
+    {"5351010000000008", SQUALL_FRAME_KIND},
+    {"", SQUALL_FRAME_SHORT},
+    {"535101", SQUALL_FRAME_SHORT},
+    {"5351010100100000", SQUALL_FRAME_SHORT},
+    /* Cells. */
+    {"535101010000001900000000000000010000000100002710000000030100000000", SQUALL_FRAME_RANGE},
+    {"5351010100000018000000000000000100000001000000000000000301000000", SQUALL_FRAME_COUNT},
+    {"535101010000002a000000000000000200000001000000000000000301000000000000000100000000000000"
+     "020100000000", SQUALL_FRAME_ORDER},
+    {"535101010000002a000000000000000200000001000000000000000301000000000000000100000000000000"
+     "030100000000", SQUALL_FRAME_ORDER},
+    /* Rows of digests. */
+    {"535101020000001000000000000000010000000100000000", SQUALL_FRAME_COUNT},
+    {"5351010200000030000000000000000100000000000000000000000000000000000000000000000000000000"
+     "000000000000000000000000", SQUALL_FRAME_RANGE},
+    {"5351010200000030000000000000000100000001000027100000000000000000000000000000000000000000"
+     "000000000000000000000000", SQUALL_FRAME_RANGE},
+    {"5351010200000058000000000000000200000001000000000000000000000000000000000000000000000000"
+     "0000000000000000000000000000000100000000000000000000000000000000000000000000000000000000"
+     "0000000000000000", SQUALL_FRAME_ORDER},
+    /* Issues. */
+    {"53510202000000080000000000000000", SQUALL_FRAME_RANGE},
+    {"53510201000000110000000000000001000000010000000000", SQUALL_FRAME_RANGE},
+    {"53510201000000110000000000000001000000000200000000", SQUALL_FRAME_RANGE},
+    {"535102010000001600000000000000020000000202000000020200000000", SQUALL_FRAME_ORDER},
+    {"535102010000000c000000000000000100000001", SQUALL_FRAME_COUNT},
+    {"5351020100000012000000000000000100000001020000000000", SQUALL_FRAME_SPARE},
+    {"535102020000000c000000000000000100000001", SQUALL_FRAME_COUNT},
+    /* Plans. */
+    {"53510201000000110000000000000001000000010100000000", SQUALL_FRAME_RANGE},
+    {"53510201000000110000000000000001000000010100001001", SQUALL_FRAME_RANGE},
+    {"53510201000000110000000000000001000000010100001000", SQUALL_FRAME_COUNT},
+    {"535102010000001d0000000000000001000000010100000001ffffffff0000000100000001", SQUALL_FRAME_RANGE},
+    {"535102010000001d0000000000000001000000010100000001ffffffff0000000000002710", SQUALL_FRAME_RANGE},
+    {"535102010000001d0000000000000001000000010100000001000000030000000000000001", SQUALL_FRAME_RANGE},
+    {"53510201000000290000000000000001000000010100000002000000000000000000000001ffffffff000000"
+     "0000000002", SQUALL_FRAME_ORDER},
+    {"53510201000000290000000000000001000000010100000002000000030000000000000001ffffffff000000"
+     "0000000001", SQUALL_FRAME_ORDER},
+    {"535102010000001d0000000000000001000000010100000001ffffffff000000000000270f", SQUALL_FRAME_COUNT},
+};
+
+static void bytes_that_are_no_frame(void) {
+    for (size_t i = 0; i < sizeof FAULTS / sizeof FAULTS[0]; i++) {
+        squall_router *router = fresh();
+        uint8_t bytes[256];
+        size_t len = bytes_of_hex(FAULTS[i].hex, bytes, sizeof bytes);
+        CHECK(squall_router_hear(router, bytes, len) == FAULTS[i].fault);
+        CHECK(squall_router_gather_board(router, SQUALL_NO_LIMIT) == SQUALL_OK && next_is(router, ""));
+        drop_router(router);
+    }
+}
+
+static const char EMPTY_DIGEST[] = "53510102000000080000000000000000";
+
+/* Each first part of a frame, the empty one too, is too short. */
+static void parts_of_frames(void) {
+    const char *const frames[] = {LOAD, EMPTY_DIGEST, EACH};
+    squall_router *router = fresh();
+    for (size_t i = 0; i < sizeof frames / sizeof frames[0]; i++) {
+        uint8_t bytes[256];
+        size_t len = bytes_of_hex(frames[i], bytes, sizeof bytes);
+        for (size_t end = 0; end < len; end++) {
+            CHECK(squall_router_hear(router, bytes, end) == SQUALL_FRAME_SHORT);
+        }
+        CHECK(squall_router_hear(router, bytes, len) == SQUALL_OK);
+    }
+    drop_router(router);
+}
+
+/* ---- streams in pieces of one length */
+
+/* The router is fed the bytes in pieces of that length. The last answer, up to the first that is not SQUALL_OK. */
+static uint32_t feed_pieces(squall_router *router, const uint8_t *bytes, size_t len, size_t length) {
+    uint32_t status = SQUALL_OK;
+    for (size_t at = 0; at < len && status == SQUALL_OK; at += length) {
+        status = squall_router_feed(router, bytes + at, at + length < len ? length : len - at);
+    }
+    return status;
+}
+
+/* The load, and the clash of number 2: all that the stream below tells. */
+static const char LOAD_AND_CLASH[] = "5351020100000032000000000000000100000002020000000100000001000000000000000300"
+                                     "0000000100000002000000000000000300000000";
+
+/* A load, a digest of nothing and a clash are heard in pieces of each length; or a load, and then bytes with which no
+ * frame begins. */
+static void pieces_of_each_length(void) {
+    uint8_t three[128];
+    size_t len = bytes_of_hex(LOAD, three, sizeof three);
+    len += bytes_of_hex(EMPTY_DIGEST, three + len, sizeof three - len);
+    len += bytes_of_hex("535102010000001100000000000000010000000202" "00000000", three + len, sizeof three - len);
+    uint8_t faulty[64];
+    size_t faulty_len = bytes_of_hex(LOAD, faulty, sizeof faulty);
+    faulty_len += bytes_of_hex("5352", faulty + faulty_len, sizeof faulty - faulty_len);
+    CHECK(len == 90 && faulty_len == 51);
+    for (size_t length = 1; length < 100; length++) {
+        squall_router *router = fresh();
+        CHECK(feed_pieces(router, three, len, length) == SQUALL_OK);
+        CHECK(squall_router_taken(router) == 3 && squall_router_waiting(router) == 0);
+        CHECK(squall_router_gather_repair(router, SQUALL_NO_LIMIT) == SQUALL_OK && next_is(router, LOAD_AND_CLASH));
+        drop_router(router);
+        router = fresh();
+        CHECK(feed_pieces(router, faulty, faulty_len, length) == SQUALL_FRAME_MAGIC);
+        CHECK(squall_router_gather_board(router, SQUALL_NO_LIMIT) == SQUALL_OK && next_is(router, LOAD));
         drop_router(router);
     }
 }
@@ -254,6 +388,26 @@ static void a_cell_that_is_cut(void) {
     drop_router(router);
 }
 
+/* A board whose frame is as long as can be. It is heard in short pieces and in long ones. */
+static void a_frame_as_long_as_can_be(void) {
+    squall_router *router = fresh();
+    take_spans(router, 65534);
+    CHECK(squall_router_gather_board(router, SQUALL_NO_LIMIT) == SQUALL_OK);
+    struct frames frames = frames_of(router);
+    CHECK(frames.count == 1 && frames.len[0] == 8 + 1048569);
+    for (size_t length = 7; length <= 65536; length += 65529) {
+        squall_router *other = fresh();
+        CHECK(feed_pieces(other, frames.bytes[0], frames.len[0], length) == SQUALL_OK);
+        CHECK(squall_router_gather_board(other, SQUALL_NO_LIMIT) == SQUALL_OK);
+        struct frames back = frames_of(other);
+        CHECK(same_frames(frames, back));
+        drop_frames(back);
+        drop_router(other);
+    }
+    drop_frames(frames);
+    drop_router(router);
+}
+
 /* What a router was told, in numbers: openings, issues and cells. */
 static bool has_counts(const squall_router *router, uint64_t opened, uint64_t issues) {
     squall_counts counts = {7, 7, 7, 7};
@@ -284,12 +438,16 @@ static void issues_and_many_cells(void) {
 
 static const struct test TESTS[] = {
     TEST(what_is_heard_comes_back),
+    TEST(bytes_that_are_no_frame),
+    TEST(parts_of_frames),
+    TEST(pieces_of_each_length),
     TEST(digests_of_boards),
     TEST(repairs_complete_boards),
     TEST(an_opening_and_an_issue_within_limits),
     TEST(spans_within_limits),
     TEST(one_frame_of_two_cells),
     TEST(a_cell_that_is_cut),
+    TEST(a_frame_as_long_as_can_be),
     TEST(issues_and_many_cells),
 };
 

@@ -13,8 +13,28 @@ static const uint8_t LOAD_FRAME[] = {
 };
 static const uint8_t EMPTY_DIGEST[] = {0x53, 0x51, 1, 2, 0, 0, 0, 8, 0, 0, 0, 0, 0, 0, 0, 0};
 
+/* Each kind of item: openings, an issue and a clash, a load and a completion. */
+static const char EACH[] = "53510201000000780000000200000001" "00002710ffffffff0000000200000002"
+                           "000000010100000001ffffffff000000000000000100000001ffffffff0000000000000002"
+                           "00000002020000000200000001000000000000000300000000010000000200000000000000"
+                           "0300000000ffffffff0000270f0000270f0100000000";
+
+/* A digest of an opening, an issue and a row, with hashes that no board has. */
+static const char OTHER_DIGEST[] = "53510202000000600000000100000001000027100000000100000001"
+                                   "0000000000000000000000000000000000000000000000000000000000000000"
+                                   "00000001000000010000270f"
+                                   "0000000000000000000000000000000000000000000000000000000000000000";
+
+static uint64_t key(uint32_t root) {
+    return squall_rank(root, 0);
+}
+
 static uint32_t load(squall_router *router) {
-    return squall_router_loaded(router, 1, 0, 3, squall_rank(2, 0), squall_rank(3, 0));
+    return squall_router_loaded(router, 1, 0, 3, key(2), key(3));
+}
+
+static uint32_t load_half(squall_router *router) {
+    return squall_router_loaded(router, 1, 0, 3, key(2), squall_rank(2, 7));
 }
 
 static uint32_t finish(squall_router *router) {
@@ -37,6 +57,49 @@ static uint32_t hear(squall_router *router) {
     return squall_router_hear(router, LOAD_FRAME, sizeof LOAD_FRAME);
 }
 
+static uint32_t hear_hex(squall_router *router, const char *hex) {
+    uint8_t frame[256];
+    return squall_router_hear(router, frame, bytes_of_hex(hex, frame, sizeof frame));
+}
+
+static uint32_t hear_each(squall_router *router) {
+    return hear_hex(router, EACH);
+}
+
+static uint32_t hear_digest(squall_router *router) {
+    return hear_hex(router, OTHER_DIGEST);
+}
+
+/* Frames of reports, which are made before any allocation is refused. */
+static uint8_t done_frame[64];
+static uint8_t opened_frame[64];
+static uint8_t issue_frame[512];
+static size_t done_len;
+static size_t opened_len;
+static size_t issue_len;
+
+static void make_frames(void) {
+    squall_course *course = (squall_course *)room_of(squall_course_size());
+    squall_course_open(2, bytes_of(NEW), strlen(NEW), bytes_of(OLD), strlen(OLD), course);
+    issue_len = squall_course_frame(course, issue_frame, sizeof issue_frame);
+    squall_course_close(course);
+    free(course);
+    done_len = squall_frame_done(1, 0, 4, done_frame, sizeof done_frame);
+    opened_len = squall_frame_opened(1, 0, opened_frame, sizeof opened_frame);
+}
+
+static uint32_t hear_done(squall_router *router) {
+    return squall_router_hear(router, done_frame, done_len);
+}
+
+static uint32_t hear_opened(squall_router *router) {
+    return squall_router_hear(router, opened_frame, opened_len);
+}
+
+static uint32_t hear_issue(squall_router *router) {
+    return squall_router_hear(router, issue_frame, issue_len);
+}
+
 static uint32_t gather_board(squall_router *router) {
     return squall_router_gather_board(router, SQUALL_NO_LIMIT);
 }
@@ -49,6 +112,11 @@ static uint32_t gather_repair(squall_router *router) {
     return squall_router_gather_repair(router, SQUALL_NO_LIMIT);
 }
 
+/* A span of keys of one cell in a frame of its own. */
+static uint32_t gather_pieces(squall_router *router) {
+    return squall_router_gather_board(router, 49);
+}
+
 /* A router that was told something, has heard a digest and has a frame that waits. */
 static squall_router *busy_router(void) {
     squall_router *router = router_of(1, OLD, NEW);
@@ -59,27 +127,131 @@ static squall_router *busy_router(void) {
     return router;
 }
 
+/* A router that was told of the first half of a load. */
+static squall_router *half_router(void) {
+    squall_router *router = router_of(1, OLD, NEW);
+    CHECK(squall_router_status(router) == SQUALL_OK);
+    CHECK(load_half(router) == SQUALL_OK);
+    return router;
+}
+
+/* A router that was told of spans in two cells and heard each kind of item, and a digest. */
+static squall_router *full_router(void) {
+    squall_router *router = half_router();
+    CHECK(squall_router_loaded(router, 1, 0, 3, squall_rank(2, 8), squall_rank(2, 9)) == SQUALL_OK);
+    CHECK(squall_router_loaded(router, 1, 0, 4, key(6), key(7)) == SQUALL_OK);
+    CHECK(hear_each(router) == SQUALL_OK && hear_digest(router) == SQUALL_OK);
+    return router;
+}
+
+/* ---- tables of many legs and cells of many spans */
+
+enum { RANGES = 601, SPANS = 600 };
+
+/* The text of the plan of that many ranges, by turns of partitions 3 and 4. Each begins at the key of three times
+ * its index and its index. */
+static const char *many_ranges(void) {
+    static char text[RANGES * 80];
+    char *end = text + sprintf(text, "{\"plan\":[");
+    for (uint32_t i = 0; i < RANGES; i++) {
+        end += sprintf(end, "{\"part\":%u,\"from\":[%u,%u],\"to\":", i % 2 == 0 ? 3u : 4u, i * 3, i);
+        end += i + 1 == RANGES ? sprintf(end, "\"end\"}") : sprintf(end, "[%u,%u]},", i * 3 + 3, i + 1);
+    }
+    sprintf(end, "]}");
+    return text;
+}
+
+/* A router whose course leads from those ranges, which are of four blocks, to partition 3 alone. */
+static squall_router *router_of_many(void) {
+    squall_router *router = router_of(1, many_ranges(), "{\"plan\":[{\"part\":3,\"from\":[0,0],\"to\":\"end\"}]}");
+    CHECK(squall_router_status(router) == SQUALL_OK);
+    return router;
+}
+
+static uint32_t load_wide(squall_router *router, uint64_t lo, uint64_t hi) {
+    return squall_router_loaded(router, 1, 0, 3, lo, hi);
+}
+
+/* The legs 100 to 500 become one. */
+static uint32_t load_over_blocks(squall_router *router) {
+    return load_wide(router, squall_rank(300, 100), squall_rank(1500, 500));
+}
+
+/* Leg 301 is split. */
+static uint32_t load_within_a_leg(squall_router *router) {
+    return load_wide(router, key(904), key(905));
+}
+
+/* Leg 301 is joined with its neighbours. */
+static uint32_t load_a_leg(squall_router *router) {
+    return load_wide(router, squall_rank(903, 301), squall_rank(906, 302));
+}
+
+/* In one frame 101 and 501 are split, and 301 is joined with its neighbours. */
+static uint8_t three_frame[128];
+static size_t three_len;
+
+static void make_three(void) {
+    squall_router *router = router_of(1, OLD, NEW);
+    CHECK(load_wide(router, key(304), key(305)) == SQUALL_OK && load_a_leg(router) == SQUALL_OK);
+    CHECK(load_wide(router, key(1504), key(1505)) == SQUALL_OK);
+    CHECK(squall_router_gather_board(router, SQUALL_NO_LIMIT) == SQUALL_OK);
+    three_len = squall_router_frame(router, three_frame, sizeof three_frame);
+    CHECK(three_len == 81);
+    drop_router(router);
+}
+
+static uint32_t hear_three(squall_router *router) {
+    return squall_router_hear(router, three_frame, three_len);
+}
+
+/* A router with a cell of so many spans of one key each, which are of several blocks. */
+static squall_router *router_of_spans(void) {
+    squall_router *router = half_router();
+    for (uint32_t i = 0; i < SPANS; i++) {
+        CHECK(load_wide(router, squall_rank(2, 10 + 2 * i), squall_rank(2, 11 + 2 * i)) == SQUALL_OK);
+    }
+    CHECK(squall_router_hear(router, EMPTY_DIGEST, sizeof EMPTY_DIGEST) == SQUALL_OK);
+    return router;
+}
+
+/* One span more, in the middle. */
+static uint32_t load_between_spans(squall_router *router) {
+    return load_wide(router, squall_rank(2, 611), squall_rank(2, 612));
+}
+
+/* Two hundred spans become one. */
+static uint32_t load_over_spans(squall_router *router) {
+    return load_wide(router, squall_rank(2, 310), squall_rank(2, 711));
+}
+
+/* ---- what is seen of a router */
+
+enum { LEGS = 2048 };
+
 /* What a caller can see: the frame that waits, the frame of the board, the first legs. */
 struct seen {
     size_t waits;
     size_t len;
-    uint8_t board[1024];
-    squall_leg legs[8];
+    uint8_t board[16384];
+    squall_leg legs[LEGS];
     size_t count;
     uint32_t number;
 };
 
-static struct seen seen_of(squall_router *router) {
-    struct seen seen;
-    memset(&seen, 0, sizeof seen);
-    seen.waits = squall_router_frame(router, seen.board, sizeof seen.board);
+static void see(squall_router *router, struct seen *seen) {
+    memset(seen, 0, sizeof *seen);
+    seen->waits = squall_router_frame(router, seen->board, sizeof seen->board);
     CHECK(squall_router_gather_board(router, SQUALL_NO_LIMIT) == SQUALL_OK);
-    seen.len = squall_router_frame(router, seen.board, sizeof seen.board);
+    seen->len = squall_router_frame(router, seen->board, sizeof seen->board);
     CHECK(squall_router_gather_board(router, SQUALL_NO_LIMIT) == SQUALL_OK);
-    seen.count = squall_router_legs(router, 0, SQUALL_TOP, seen.legs, 8);
-    seen.number = squall_router_number(router);
-    return seen;
+    seen->count = squall_router_legs(router, 0, SQUALL_TOP, seen->legs, LEGS);
+    seen->number = squall_router_number(router);
+    CHECK(seen->len <= sizeof seen->board && seen->count <= LEGS);
 }
+
+static struct seen before;
+static struct seen after;
 
 /* How often the test that runs now was answered SQUALL_NO_MEMORY. */
 static int answered;
@@ -90,10 +262,14 @@ static bool fits(uint32_t status, bool was_refused) {
     return status == SQUALL_OK || (was_refused && status == SQUALL_NO_MEMORY);
 }
 
+typedef squall_router *router_maker(void);
+typedef uint32_t router_call(squall_router *router);
+
 /* The call with the allocation of that number refused; whether it made so many. */
-static bool refuse_one(long number, uint32_t (*call)(squall_router *)) {
-    squall_router *router = busy_router();
-    struct seen before = seen_of(router);
+static bool refuse_one(long number, router_maker *made, router_call *call) {
+    squall_router *router = made();
+    CHECK(squall_router_gather_board(router, SQUALL_NO_LIMIT) == SQUALL_OK);
+    see(router, &before);
     asked = 0;
     refused = number;
     uint32_t status = call(router);
@@ -101,7 +277,7 @@ static bool refuse_one(long number, uint32_t (*call)(squall_router *)) {
     refused = 0;
     CHECK(fits(status, was_refused));
     if (status == SQUALL_NO_MEMORY) {
-        struct seen after = seen_of(router);
+        see(router, &after);
         CHECK(memcmp(&before, &after, sizeof before) == 0);
         CHECK(call(router) == SQUALL_OK);
     }
@@ -110,10 +286,10 @@ static bool refuse_one(long number, uint32_t (*call)(squall_router *)) {
     return was_refused;
 }
 
-static void refuse_each(uint32_t (*call)(squall_router *)) {
+static void refuse_each(router_maker *made, router_call *call) {
     long number = 1;
     answered = 0;
-    while (number < 10000 && refuse_one(number, call)) {
+    while (number < 10000 && refuse_one(number, made, call)) {
         number++;
     }
     CHECK(answered > 0 && number < 10000);
@@ -125,14 +301,14 @@ enum { PIECE = 7 };
  * comes again; whether the calls made so many. */
 static bool refuse_in_pieces(long number) {
     squall_router *router = busy_router();
-    struct seen before = seen_of(router);
+    see(router, &before);
     asked = 0;
     refused = number;
     for (size_t at = 0; at < sizeof LOAD_FRAME; at += PIECE) {
         uint32_t status = squall_router_feed(router, LOAD_FRAME + at, PIECE);
         CHECK(fits(status, asked >= number));
         if (status == SQUALL_NO_MEMORY) {
-            struct seen after = seen_of(router);
+            see(router, &after);
             CHECK(memcmp(&before, &after, sizeof before) == 0);
             CHECK(squall_router_feed(router, LOAD_FRAME + at, PIECE) == SQUALL_OK);
         }
@@ -147,28 +323,56 @@ static bool refuse_in_pieces(long number) {
 
 /* ---- the tests */
 
-static void loads(void) {
-    refuse_each(load);
-}
-
-static void completions(void) {
-    refuse_each(finish);
-}
-
-static void openings(void) {
-    refuse_each(open_next);
-}
-
-static void issues(void) {
-    refuse_each(issue);
+/* Reports of the host's own, to a router that knows some of what they say, or nothing. */
+static void reports(void) {
+    static router_call *const CALLS[] = {load, finish, open_next, issue};
+    for (size_t i = 0; i < sizeof CALLS / sizeof CALLS[0]; i++) {
+        refuse_each(busy_router, CALLS[i]);
+        refuse_each(half_router, CALLS[i]);
+    }
 }
 
 static void feeds(void) {
-    refuse_each(feed);
+    refuse_each(busy_router, feed);
 }
 
 static void whole_frames(void) {
-    refuse_each(hear);
+    static router_call *const CALLS[] = {hear, hear_done, hear_opened, hear_issue, hear_each, hear_digest};
+    make_frames();
+    for (size_t i = 0; i < sizeof CALLS / sizeof CALLS[0]; i++) {
+        refuse_each(busy_router, CALLS[i]);
+        refuse_each(half_router, CALLS[i]);
+    }
+}
+
+static void tables_of_many_legs(void) {
+    static router_call *const CALLS[] = {load_over_blocks, load_within_a_leg, load_a_leg, hear_three};
+    make_three();
+    for (size_t i = 0; i < sizeof CALLS / sizeof CALLS[0]; i++) {
+        refuse_each(router_of_many, CALLS[i]);
+    }
+}
+
+static void cells_of_many_spans(void) {
+    static router_call *const CALLS[] = {load_between_spans, load_over_spans, hear, gather_board, gather_digest, gather_repair};
+    for (size_t i = 0; i < sizeof CALLS / sizeof CALLS[0]; i++) {
+        refuse_each(router_of_spans, CALLS[i]);
+    }
+}
+
+/* What is known is taken without memory. */
+static void known_reports(void) {
+    squall_router *router = half_router();
+    CHECK(load(router) == SQUALL_OK && open_next(router) == SQUALL_OK && finish(router) == SQUALL_OK);
+    CHECK(issue(router) == SQUALL_OK);
+    asked = 0;
+    refuses_all = true;
+    CHECK(load_half(router) == SQUALL_OK && load(router) == SQUALL_OK);
+    CHECK(open_next(router) == SQUALL_OK && finish(router) == SQUALL_OK);
+    refuses_all = false;
+    CHECK(asked == 0);
+    drop_router(router);
+    CHECK(blocks == 0);
 }
 
 static void pieces(void) {
@@ -181,15 +385,22 @@ static void pieces(void) {
 }
 
 static void boards(void) {
-    refuse_each(gather_board);
+    refuse_each(busy_router, gather_board);
+    refuse_each(full_router, gather_board);
+}
+
+static void boards_in_pieces(void) {
+    refuse_each(busy_router, gather_pieces);
 }
 
 static void digests(void) {
-    refuse_each(gather_digest);
+    refuse_each(busy_router, gather_digest);
+    refuse_each(full_router, gather_digest);
 }
 
 static void repairs(void) {
-    refuse_each(gather_repair);
+    refuse_each(busy_router, gather_repair);
+    refuse_each(full_router, gather_repair);
 }
 
 static bool refuse_in_opening(long number) {
@@ -425,14 +636,15 @@ static void calls_that_allocate_nothing(void) {
 }
 
 static const struct test TESTS[] = {
-    TEST(loads),
-    TEST(completions),
-    TEST(openings),
-    TEST(issues),
+    TEST(reports),
     TEST(feeds),
     TEST(whole_frames),
+    TEST(tables_of_many_legs),
+    TEST(cells_of_many_spans),
+    TEST(known_reports),
     TEST(pieces),
     TEST(boards),
+    TEST(boards_in_pieces),
     TEST(digests),
     TEST(repairs),
     TEST(openings_of_routers),

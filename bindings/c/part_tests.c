@@ -538,10 +538,39 @@ static uint32_t find_fresh(squall_part *part) {
     return squall_part_fresh(part, &chunk, 0, &span);
 }
 
-static uint32_t finish(squall_part *part) {
+static uint32_t load_all(squall_part *part) {
     squall_chunk chunk = chunk_of(key(2), key(3));
-    uint32_t status = squall_part_load(part, &chunk);
-    return status == SQUALL_OK || status == SQUALL_LOADED_BEFORE ? squall_part_finish(part, 0) : status;
+    return squall_part_load(part, &chunk);
+}
+
+static uint32_t give_all(squall_part *part) {
+    squall_chunk chunk;
+    return squall_part_give(part, UINT64_MAX, &chunk);
+}
+
+static uint32_t give_first(squall_part *part) {
+    squall_chunk chunk;
+    return squall_part_give_at(part, key(2), &chunk);
+}
+
+static uint32_t finish(squall_part *part) {
+    return squall_part_finish(part, 0);
+}
+
+/* The frame of the way back, course 2, which is made before any allocation is refused. */
+static uint8_t way_back[512];
+static size_t way_back_len;
+
+static void make_way_back(void) {
+    squall_course *course = (squall_course *)room_of(squall_course_size());
+    squall_course_open(2, bytes_of(NEW), strlen(NEW), bytes_of(OLD), strlen(OLD), course);
+    way_back_len = squall_course_frame(course, way_back, sizeof way_back);
+    squall_course_close(course);
+    free(course);
+}
+
+static uint32_t turn(squall_part *part) {
+    return squall_part_hear(part, way_back, way_back_len);
 }
 
 static uint32_t gather_board(squall_part *part) {
@@ -552,25 +581,73 @@ static uint32_t gather_digest(squall_part *part) {
     return squall_part_gather_digest(part, SQUALL_NO_LIMIT);
 }
 
-static uint32_t repair(squall_part *part) {
-    uint32_t status = squall_part_hear(part, EMPTY_DIGEST, sizeof EMPTY_DIGEST);
-    return status == SQUALL_OK ? squall_part_gather_repair(part, SQUALL_NO_LIMIT) : status;
+static uint32_t hear_digest(squall_part *part) {
+    return squall_part_hear(part, EMPTY_DIGEST, sizeof EMPTY_DIGEST);
 }
 
-/* How many spans it holds, gave and loaded. */
-static size_t spans_of(const squall_part *part) {
-    squall_span spans[8];
-    return squall_part_held(part, 0, spans, 8) + squall_part_given(part, 1, 0, spans, 8)
-           + squall_part_loaded(part, 1, 0, spans, 8);
+static uint32_t gather_repair(squall_part *part) {
+    return squall_part_gather_repair(part, SQUALL_NO_LIMIT);
+}
+
+/* Partitions of which something is asked then. */
+static squall_part *source(void) {
+    return part_of(1);
+}
+
+static squall_part *open_source(void) {
+    return open_part(1);
+}
+
+static squall_part *open_dest(void) {
+    return open_part(3);
+}
+
+static squall_part *full_dest(void) {
+    squall_part *part = open_part(3);
+    CHECK(load_all(part) == SQUALL_OK && hear_digest(part) == SQUALL_OK);
+    return part;
+}
+
+enum { SPANS = 8 };
+
+/* What a caller can see: the frame that waits, that of the board, and which keys the partition holds, and gave and
+ * loaded in courses 1 and 2. */
+struct seen {
+    size_t waits;
+    size_t len;
+    uint8_t board[1024];
+    squall_span spans[5][SPANS];
+    size_t counts[5];
+    uint32_t closed;
+};
+
+static struct seen seen_of(squall_part *part) {
+    struct seen seen;
+    memset(&seen, 0, sizeof seen);
+    seen.waits = squall_part_frame(part, seen.board, sizeof seen.board);
+    CHECK(gather_board(part) == SQUALL_OK);
+    seen.len = squall_part_frame(part, seen.board, sizeof seen.board);
+    CHECK(gather_board(part) == SQUALL_OK);
+    seen.counts[0] = squall_part_held(part, 0, seen.spans[0], SPANS);
+    for (uint32_t number = 1; number <= 2; number++) {
+        seen.counts[number] = squall_part_given(part, number, 0, seen.spans[number], SPANS);
+        seen.counts[number + 2] = squall_part_loaded(part, number, 0, seen.spans[number + 2], SPANS);
+    }
+    seen.closed = squall_part_course_closed(part, 1);
+    return seen;
 }
 
 /* How often the test that runs now was answered SQUALL_NO_MEMORY. */
 static int answered;
 
+typedef squall_part *part_maker(void);
+typedef uint32_t part_call(squall_part *part);
+
 /* The call with the allocation of that number refused; whether it made so many. */
-static bool refuse_one(long number, uint32_t (*call)(squall_part *)) {
-    squall_part *part = open_part(3);
-    size_t before = spans_of(part);
+static bool refuse_one(long number, part_maker *made, part_call *call) {
+    squall_part *part = made();
+    CHECK(gather_board(part) == SQUALL_OK);
+    struct seen before = seen_of(part);
     asked = 0;
     refused = number;
     uint32_t status = call(part);
@@ -579,7 +656,8 @@ static bool refuse_one(long number, uint32_t (*call)(squall_part *)) {
     CHECK(status == SQUALL_OK || (was_refused && status == SQUALL_NO_MEMORY));
     if (status == SQUALL_NO_MEMORY) {
         answered++;
-        CHECK(call == finish || spans_of(part) == before);
+        struct seen after = seen_of(part);
+        CHECK(memcmp(&before, &after, sizeof before) == 0);
         CHECK(call(part) == SQUALL_OK);
     }
     drop_part(part);
@@ -587,10 +665,10 @@ static bool refuse_one(long number, uint32_t (*call)(squall_part *)) {
     return was_refused;
 }
 
-static void refuse_each(uint32_t (*call)(squall_part *)) {
+static void refuse_each(part_maker *made, part_call *call) {
     long number = 1;
     answered = 0;
-    while (refuse_one(number, call)) {
+    while (refuse_one(number, made, call)) {
         number++;
     }
     CHECK(answered > 0);
@@ -633,27 +711,37 @@ static void refused_pieces(void) {
 }
 
 static void refused_allocations(void) {
-    refuse_each(hear_opening);
-    refuse_each(feed_opening);
-    refuse_each(give_some);
-    refuse_each(give_one);
-    refuse_each(load_some);
-    refuse_each(find_fresh);
-    refuse_each(finish);
-    refuse_each(gather_board);
-    refuse_each(gather_digest);
-    refuse_each(repair);
+    make_way_back();
+    refuse_each(source, hear_opening);
+    refuse_each(source, feed_opening);
+    refuse_each(source, turn);
+    refuse_each(open_dest, turn);
+    refuse_each(open_source, give_all);
+    refuse_each(open_source, give_first);
+    refuse_each(open_dest, give_some);
+    refuse_each(open_dest, give_one);
+    refuse_each(open_dest, load_some);
+    refuse_each(open_dest, load_all);
+    refuse_each(open_dest, find_fresh);
+    refuse_each(full_dest, finish);
+    refuse_each(open_dest, gather_board);
+    refuse_each(open_dest, gather_digest);
+    refuse_each(full_dest, gather_repair);
 }
 
 /* The opening with the allocation of that number refused; whether it made so many. */
 static bool refuse_in_opening(const squall_course *course, squall_part *part, long number) {
+    squall_span spans[2];
     asked = 0;
     refused = number;
-    squall_part_open(3, course, part);
+    squall_part_open(1, course, part);
     bool was_refused = asked >= number;
     refused = 0;
     uint32_t status = squall_part_status(part);
     CHECK(status == SQUALL_OK || (was_refused && status == SQUALL_NO_MEMORY));
+    CHECK(squall_part_held(part, 0, spans, 2) == (status == SQUALL_OK ? 1 : 0));
+    CHECK(status != SQUALL_OK || (spans[0].lo == 0 && spans[0].hi == key(3)));
+    CHECK(squall_course_number(course) == 1);
     squall_part_close(part);
     return was_refused;
 }
@@ -679,11 +767,13 @@ static void refused_openings(void) {
 static void calls_that_allocate_nothing(void) {
     squall_part *part = open_part(3);
     squall_answer answer;
+    squall_span spans[2];
     uint8_t out[1024];
     CHECK(squall_part_gather_board(part, SQUALL_NO_LIMIT) == SQUALL_OK);
     asked = 0;
     CHECK(squall_part_serve(part, key(5), 0, &answer) == SQUALL_OK);
-    CHECK(spans_of(part) == 1);
+    CHECK(squall_part_held(part, 0, spans, 2) == 1 && squall_part_given(part, 1, 0, spans, 2) == 0);
+    CHECK(squall_part_loaded(part, 1, 0, spans, 2) == 0);
     CHECK(squall_part_course_closed(part, 1) == 0);
     CHECK(squall_part_close_course(part) == 1);
     CHECK(squall_part_course_closed(part, 1) == 1);

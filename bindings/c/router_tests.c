@@ -225,6 +225,8 @@ static void any_order_and_number(void) {
     CHECK(!are_alike(router_after(hear, "hd"), router_after(hear, "h")));
     CHECK(are_alike(router_after(hear, "Bd"), router_after(hear, "dBB")));
     CHECK(!are_alike(router_after(hear, "Bd"), router_after(hear, "d")));
+    /* More of a cell is no longer known. */
+    CHECK(are_alike(router_after(take, "hhll"), router_after(hear, "l")));
 }
 
 /* A report that is taken does what its frame does. */
@@ -355,6 +357,219 @@ static void tables_of_many_legs(void) {
     }
 }
 
+/* ---- tables row by row */
+
+enum kind { NOTHING, LOAD, DONE, OPENED };
+
+/* A report of partition 3's load, or of a completion, or of an opening. Its course is the one that the table is of,
+ * or one later. */
+struct report {
+    enum kind kind;
+    uint64_t lo;
+    uint64_t hi;
+    uint32_t part;
+    uint32_t sub;
+    uint32_t later;
+};
+
+#define LOADED(lo, hi) {LOAD, lo, hi, 3, 0, 0}
+#define DONE_BY(part) {DONE, 0, 0, part, 0, 0}
+#define NO_REPORT {NOTHING, 0, 0, 0, 0, 0}
+
+/* The router takes the report, which is of that course. */
+static void take_report(squall_router *router, const struct report *report, uint32_t course) {
+    uint32_t number = course + report->later;
+    uint32_t status = SQUALL_OK;
+    if (report->kind == LOAD) {
+        status = squall_router_loaded(router, number, report->sub, report->part, report->lo, report->hi);
+    } else if (report->kind == DONE) {
+        status = squall_router_done(router, number, report->sub, report->part);
+    } else if (report->kind == OPENED) {
+        status = squall_router_opened(router, number, report->sub);
+    }
+    CHECK(status == SQUALL_OK);
+}
+
+/* The two plans of a course, reports that come first and then, and the legs of the table after both. */
+struct table_row {
+    const char *old;
+    const char *new_plan;
+    struct report first[2];
+    struct report then[2];
+    const char *legs;
+};
+
+static void take_both(squall_router *router, const struct report *reports, uint32_t course) {
+    take_report(router, &reports[0], course);
+    take_report(router, &reports[1], course);
+}
+
+/* The router hears both reports in one frame. */
+static void hear_both(squall_router *router, const struct report *reports) {
+    squall_router *other = router_of(1, OLD, NEW);
+    uint8_t frame[1024];
+    take_both(other, reports, 1);
+    size_t len = board_of(other, frame, sizeof frame);
+    CHECK(len == 0 || squall_router_hear(router, frame, len) == SQUALL_OK);
+    drop_router(other);
+}
+
+/* A table that takes the reports one by one. */
+static squall_router *taken(const struct table_row *row) {
+    squall_router *router = router_of(1, row->old, row->new_plan);
+    take_both(router, row->first, 1);
+    take_both(router, row->then, 1);
+    return router;
+}
+
+/* A table that takes them from two frames. */
+static squall_router *absorbed(const struct table_row *row) {
+    squall_router *router = router_of(1, row->old, row->new_plan);
+    hear_both(router, row->first);
+    hear_both(router, row->then);
+    return router;
+}
+
+/* A table that is built of the board that has taken them: they are of course 2, which is issued after them. */
+static squall_router *built(const struct table_row *row) {
+    squall_router *router = router_of(1, row->new_plan, row->old);
+    take_both(router, row->first, 2);
+    take_both(router, row->then, 2);
+    CHECK(squall_router_issued(router, 2, bytes_of(row->new_plan), strlen(row->new_plan)) == SQUALL_OK);
+    CHECK(squall_router_number(router) == 2);
+    return router;
+}
+
+/* The table as text: of each leg its partition and its span. */
+static void write_legs(const squall_router *router, char *out) {
+    squall_leg legs[LEGS];
+    size_t count = squall_router_legs(router, 0, SQUALL_TOP, legs, LEGS);
+    CHECK(count <= LEGS);
+    for (size_t i = 0; i < count && i < LEGS; i++) {
+        out += sprintf(out, "%u [%u:%u,", legs[i].part, (unsigned)(legs[i].lo >> 32), (unsigned)legs[i].lo);
+        out += legs[i].hi == SQUALL_TOP ? sprintf(out, "end);")
+                                        : sprintf(out, "%u:%u);", (unsigned)(legs[i].hi >> 32), (unsigned)legs[i].hi);
+    }
+    *out = 0;
+}
+
+#define BEFORE "1 [0:0,3:0);2 [3:0,5:0);3 [5:0,9:0);4 [9:0,end);"
+#define AFTER_LOAD "1 [0:0,2:0);3 [2:0,3:0);2 [3:0,5:0);3 [5:0,9:0);4 [9:0,end);"
+
+static const char ALONE[] = "{\"plan\":[{\"part\":1,\"from\":[0,0],\"to\":\"end\"}]}";
+/* The first keys and the last go from 1 to 3. */
+static const char ENDS[] = "{\"plan\":[{\"part\":3,\"from\":[0,0],\"to\":[1,0]},{\"part\":1,\"from\":[1,0],\"to\":[8,0]},"
+                           "{\"part\":3,\"from\":[8,0],\"to\":\"end\"}]}";
+
+static const struct table_row TABLE_ROWS[] = {
+    {OLD, NEW, {{OPENED, 0, 0, 0, 0, 0}, NO_REPORT}, {{OPENED, 0, 0, 0, 0, 0}, NO_REPORT}, BEFORE},
+    /* One move brings all keys of the span, or some of them. */
+    {OLD, NEW, {{OPENED, 0, 0, 0, 0, 0}, NO_REPORT}, {LOADED(KEY(2, 0), KEY(3, 0)), NO_REPORT}, AFTER_LOAD},
+    {OLD, NEW, {{OPENED, 0, 0, 0, 0, 0}, NO_REPORT}, {LOADED(KEY(1, 0), KEY(4, 0)), NO_REPORT}, AFTER_LOAD},
+    {OLD, NEW, {LOADED(KEY(2, 0), KEY(2, 7)), NO_REPORT}, {LOADED(KEY(2, 5), KEY(2, 9)), NO_REPORT},
+     "1 [0:0,2:0);3 [2:0,2:9);1 [2:9,3:0);2 [3:0,5:0);3 [5:0,9:0);4 [9:0,end);"},
+    /* The leg of the load joins the one below it, the one above it, or has been there. */
+    {OLD, NEW, {LOADED(KEY(2, 0), KEY(2, 7)), NO_REPORT}, {LOADED(KEY(2, 7), KEY(3, 0)), NO_REPORT}, AFTER_LOAD},
+    {OLD, NEW, {LOADED(KEY(2, 7), KEY(3, 0)), NO_REPORT}, {LOADED(KEY(2, 0), KEY(2, 7)), NO_REPORT}, AFTER_LOAD},
+    {OLD, NEW, {LOADED(KEY(2, 0), KEY(3, 0)), NO_REPORT}, {LOADED(KEY(2, 3), KEY(2, 7)), NO_REPORT}, AFTER_LOAD},
+    /* None of the span goes to partition 3. */
+    {OLD, NEW, {{OPENED, 0, 0, 0, 0, 0}, NO_REPORT}, {LOADED(KEY(5, 0), KEY(9, 0)), NO_REPORT}, BEFORE},
+    {OLD, NEW, {LOADED(KEY(2, 0), KEY(3, 0)), NO_REPORT}, {DONE_BY(4), NO_REPORT},
+     "1 [0:0,2:0);3 [2:0,3:0);2 [3:0,5:0);3 [5:0,6:0);4 [6:0,end);"},
+    /* Completions of another course, and of a sub-plan in which no key moves. */
+    {OLD, NEW, {{DONE, 0, 0, 4, 0, 1}, NO_REPORT}, {{DONE, 0, 0, 4, 1, 0}, NO_REPORT}, BEFORE},
+    /* Some of a move, and all of one. */
+    {OLD, NEW, {LOADED(KEY(2, 0), KEY(2, 7)), NO_REPORT}, {NO_REPORT, NO_REPORT},
+     "1 [0:0,2:0);3 [2:0,2:7);1 [2:7,3:0);2 [3:0,5:0);3 [5:0,9:0);4 [9:0,end);"},
+    {OLD, NEW, {DONE_BY(4), NO_REPORT}, {NO_REPORT, NO_REPORT}, "1 [0:0,3:0);2 [3:0,5:0);3 [5:0,6:0);4 [6:0,end);"},
+    {OLD, NEW, {LOADED(KEY(2, 0), KEY(2, 3)), LOADED(KEY(2, 5), KEY(2, 7))}, {NO_REPORT, NO_REPORT},
+     "1 [0:0,2:0);3 [2:0,2:3);1 [2:3,2:5);3 [2:5,2:7);1 [2:7,3:0);2 [3:0,5:0);3 [5:0,9:0);4 [9:0,end);"},
+    /* The same a second time changes nothing. */
+    {OLD, NEW, {LOADED(KEY(2, 1), KEY(2, 2)), DONE_BY(4)}, {LOADED(KEY(2, 1), KEY(2, 2)), DONE_BY(4)},
+     "1 [0:0,2:1);3 [2:1,2:2);1 [2:2,3:0);2 [3:0,5:0);3 [5:0,6:0);4 [6:0,end);"},
+    {ALONE, ENDS, {LOADED(KEY(0, 0), KEY(0, 4)), NO_REPORT}, {LOADED(KEY(8, 5), SQUALL_TOP), NO_REPORT},
+     "3 [0:0,0:4);1 [0:4,8:5);3 [8:5,end);"},
+    {ALONE, ENDS, {LOADED(KEY(0, 4), KEY(0, 7)), NO_REPORT}, {DONE_BY(3), NO_REPORT},
+     "3 [0:0,1:0);1 [1:0,8:0);3 [8:0,end);"},
+};
+
+/* A table has the legs of its row, whether it takes the reports, absorbs their frames or is built of them. */
+static void tables_have_rows(void) {
+    static squall_router *(*const MADE[])(const struct table_row *) = {taken, absorbed, built};
+    for (size_t i = 0; i < sizeof TABLE_ROWS / sizeof TABLE_ROWS[0]; i++) {
+        for (int at = 0; at < 3; at++) {
+            char legs[LEGS * 64];
+            squall_router *router = MADE[at](&TABLE_ROWS[i]);
+            write_legs(router, legs);
+            CHECK(strcmp(legs, TABLE_ROWS[i].legs) == 0);
+            drop_router(router);
+        }
+    }
+}
+
+enum { LOADS = 500 };
+
+/* Loads of one move, each of one key: two legs for each, and four that no load changes. */
+static void each_load_of_one_move(void) {
+    static squall_leg legs[MANY];
+    squall_router *router = router_of(1, OLD, NEW);
+    for (uint32_t i = 0; i < LOADS; i++) {
+        CHECK(squall_router_loaded(router, 1, 0, 3, squall_rank(2, 2 * i), squall_rank(2, 2 * i + 1)) == SQUALL_OK);
+    }
+    CHECK(legs_of(router, legs) == 2 * LOADS + 4);
+    for (uint32_t i = 0; i < LOADS; i++) {
+        CHECK(squall_router_route(router, squall_rank(2, 2 * i)) == 3 && squall_router_route(router, squall_rank(2, 2 * i + 1)) == 1);
+    }
+    drop_router(router);
+}
+
+/* Where range `index` of `count` begins, and the top behind the last. */
+static uint64_t begin_of(uint32_t index, uint32_t count) {
+    return index == count ? SQUALL_TOP : squall_rank(3 * index, index);
+}
+
+/* A router of the plan of that many ranges, which is no course of moves. */
+static squall_router *router_of_ranges(uint32_t count) {
+    char *text = (char *)room_of(count * 80 + 80);
+    char *end = text + sprintf(text, "{\"plan\":[");
+    for (uint32_t i = 0; i < count; i++) {
+        end += sprintf(end, "{\"part\":%u,\"from\":[%u,%u],\"to\":", i % 7, i * 3, i);
+        end += i + 1 == count ? sprintf(end, "\"end\"}") : sprintf(end, "[%u,%u]},", i * 3 + 3, i + 1);
+    }
+    sprintf(end, "]}");
+    squall_router *router = router_of(1, text, text);
+    CHECK(squall_router_status(router) == SQUALL_OK);
+    free(text);
+    return router;
+}
+
+/* Whether the key, if it is one, is in that leg: by its route, and by the legs from it on. */
+static bool is_in_leg(const squall_router *router, uint64_t rank, uint64_t hi, uint32_t part) {
+    squall_leg leg;
+    return rank == SQUALL_TOP || (squall_router_route(router, rank) == part
+                                  && squall_router_legs(router, rank, SQUALL_TOP, &leg, 1) > 0
+                                  && is_leg(leg, rank, hi, part));
+}
+
+/* Each bound, and the keys beside it. Of 2101 legs there are several blocks. */
+static void look_ups(void) {
+    static const uint32_t COUNTS[] = {1, 2, 3, 15, 16, 17, 33, 100, 2101};
+    for (size_t i = 0; i < sizeof COUNTS / sizeof COUNTS[0]; i++) {
+        uint32_t count = COUNTS[i];
+        squall_router *router = router_of_ranges(count);
+        static squall_leg legs[MANY];
+        CHECK(legs_of(router, legs) == count);
+        for (uint32_t at = 0; at < count; at++) {
+            uint64_t lo = begin_of(at, count);
+            uint64_t hi = begin_of(at + 1, count);
+            CHECK(is_leg(legs[at], lo, hi, at % 7));
+            CHECK(is_in_leg(router, lo, hi, at % 7) && is_in_leg(router, lo + 1, hi, at % 7));
+            CHECK(is_in_leg(router, hi - 1, hi, at % 7));
+        }
+        drop_router(router);
+    }
+}
+
 /* ---- errands */
 
 /* A reply with its partition and its number, 0 if it has none, and what the errand answers. */
@@ -427,6 +642,9 @@ static const struct test TESTS[] = {
     TEST(taken_as_heard),
     TEST(legs_are_cut_to_the_span),
     TEST(tables_of_many_legs),
+    TEST(tables_have_rows),
+    TEST(each_load_of_one_move),
+    TEST(look_ups),
     TEST(errands_follow_replies),
 };
 

@@ -1,9 +1,9 @@
-//! Tests of boards. What reports and merges make of them, and their routes, the cases of the built program show.
+//! Tests of boards. What reports and merges make of them, and their routes, the cases of the built program show; that a
+//! refused allocation changes nothing, of most calls the tests in C.
 
 mod clients;
 mod example;
 mod listed;
-mod newest;
 mod route_clients;
 mod tolerant;
 
@@ -40,12 +40,6 @@ pub(crate) fn take(board: &mut Board, report: Option<Report>) -> Option<()> {
     let report = report?;
     board.take(&report).ok()?;
     Some(())
-}
-
-/// Whether the board is an empty one.
-fn is_empty(alloc: Global, board: &Board) -> bool {
-    let empty = Board::new(alloc);
-    *board == empty
 }
 
 /// The report that the plan of a text follows that of another under the number.

@@ -1,4 +1,4 @@
-//! Tests of frames.
+//! Tests of frames. What a router hears of them, and that a refused allocation changes nothing, the tests in C show.
 
 mod clients;
 mod digests;
@@ -7,7 +7,6 @@ mod feeds;
 mod frames;
 mod tolerant;
 
-pub(crate) use self::feeds::hears;
 use squall_board::Board;
 use squall_wire::*;
 use std::alloc::{AllocError, Global};
@@ -21,10 +20,10 @@ pub(crate) const LOAD: &str =
 pub(crate) const EMPTY_DELTA: &str = "53510101 00000008 00000000 00000000";
 
 /// The frame of a digest of nothing.
-pub(crate) const EMPTY_DIGEST: &str = "53510102 00000008 00000000 00000000";
+const EMPTY_DIGEST: &str = "53510102 00000008 00000000 00000000";
 
 /// The frame of the digest of the load.
-pub(crate) const LOAD_DIGEST: &str =
+const LOAD_DIGEST: &str =
     "53510102 00000030 00000000 00000001 00000001 00000000 25868db80855a707339da598e4f3a16ab6b7b5400f2c937e7a625817d02bfa4a";
 
 /// The bytes that the text writes in hexadecimal digits. Blanks are passed over.

@@ -1,12 +1,11 @@
-//! Tests of routers and errands. What routers do with reports and frames the tests in C show.
+//! Tests of routers and errands. What routers do with reports and frames, and that a refused allocation changes
+//! nothing, the tests in C show.
 
 mod clients;
 mod errands;
 mod example;
 mod known;
 mod legs;
-mod limits;
-mod tolerant;
 mod ways;
 
 use crate::example::{course, issued};

@@ -4,10 +4,7 @@
 
 mod asked;
 mod clients;
-mod early;
 mod example;
-mod over;
-mod parts;
 mod tolerant;
 
 use squall_board::Board;

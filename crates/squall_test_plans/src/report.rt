@@ -195,24 +195,6 @@ fn issues(rt: HostRuntime) {
     look_at_issue(&rt, rt.alloc(), &copy)
 }
 
-/// An issue has both plans, or there is none.
-fn new_issue_has_plans(rt: &impl Abort, alloc: Global, old: &Plan, new: &Plan) {
-    if let Ok(issue) = Issue::new(alloc, old, new) {
-        holds!(rt; *issue.old() == *old && *issue.new_plan() == *new);
-    }
-}
-
-#[test]
-fn tolerant_new_issue(rt: HostRuntime) -> Result<(), Fail> {
-    let Some(old) = plan(rt.alloc(), OLD) else {
-        return Ok(());
-    };
-    if let Some(new) = plan(rt.alloc(), NEW) {
-        new_issue_has_plans(&rt, rt.alloc(), &old, &new);
-    }
-    Ok(())
-}
-
 /// The issue of the plan and of a copy of it. None if an allocation fails.
 fn still(alloc: Global) -> Option<Arc<Issue>> {
     let plan = plan(alloc, OLD)?;

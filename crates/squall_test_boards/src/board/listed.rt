@@ -8,8 +8,6 @@ ghost use Rattle.squall_report.specs.Told.{TellsBoth};
 ghost use Rattle.squall_board.specs.Boards.{told};
 ghost use Rattle.squall_board.specs.Listed.{IsOpening, AreCellsOfSubs, AreCellsOfNumbers, AreSomeRows, told_by_lists};
 
-mod tolerant;
-
 use super::*;
 use squall_board::laws::lists_determine_the_board;
 use squall_join::{Flat, JoinMap};
@@ -122,12 +120,12 @@ fn full(alloc: Global) -> Option<Board> {
     Some(board)
 }
 
-fn complete(alloc: Global, number: u32, sub: u32, part: u32) -> Option<Cell> {
+pub(crate) fn complete(alloc: Global, number: u32, sub: u32, part: u32) -> Option<Cell> {
     Cell::new(number, sub, part, true, SpanSet::empty(alloc))
 }
 
 /// Puts the rows of the board into the other.
-pub(crate) fn put_rows_of(board: &Board, again: &mut Board) -> Result<(), AllocError> {
+fn put_rows_of(board: &Board, again: &mut Board) -> Result<(), AllocError> {
     put_all_rows(again, board.cell_map().entries())
 }
 
@@ -149,32 +147,6 @@ fn put_rows_into_empty(rt: &impl Abort, alloc: Global, board: &Board) {
 fn rows_put_whole(rt: HostRuntime) {
     let board = board_of_two(rt.alloc()).expect(&rt, "a board");
     put_rows_into_empty(&rt, rt.alloc(), &board)
-}
-
-/// Whether these are the cells of the two reports: for each the partition, whether it is complete, and how many keys
-/// it has.
-fn lent_are_of_two(cells: &[(CellId, &CellParts)]) -> bool {
-    let wanted = [(3, false, 4294967296), (4, true, 0)];
-    if cells.len() != wanted.len() {
-        return false;
-    }
-    for (index, cell) in cells.iter().enumerate() {
-        let told = (
-            cell.0.part().get(),
-            cell.1.second.get(),
-            cell.1.first.count(),
-        );
-        if told != wanted[index] {
-            return false;
-        }
-    }
-    true
-}
-
-/// Whether the cells that the board lends are those of the two reports.
-fn lends_cells_of_two(board: &Board) -> Result<bool, AllocError> {
-    let cells = board.lent_cells()?;
-    Ok(lent_are_of_two(&cells))
 }
 
 /// The board is the other, and has an issue.

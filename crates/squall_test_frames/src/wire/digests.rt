@@ -42,12 +42,6 @@ fn the_frame_of_a_digest(rt: HostRuntime) {
 }
 
 #[test]
-fn the_digest_of_nothing(rt: HostRuntime) {
-    let digest = Digest::of(rt.alloc(), &[], &[], &[]).expect(&rt, "memory");
-    holds!(&rt; digest_is_framed_as(rt.alloc(), digest, EMPTY_DIGEST).expect(&rt, "memory"));
-}
-
-#[test]
 fn rows_of_no_digest(rt: HostRuntime) {
     let alloc = rt.alloc();
     let bad = Some(DigestFault::BadDigest);

@@ -1,14 +1,13 @@
-//! Courses that end early: where they leave the keys, and which course follows.
+//! Courses that end early: where they leave the keys.
 
-use crate::leader::{Step, leader, write_answers, write_plan};
 use squall_course::Course;
 use squall_key::Bound;
 use squall_leader::LeftFault;
 use squall_leader::left::left;
-use squall_plan::Plan;
+use squall_plan::{Plan, PlanRange};
 use squall_span::{Span, SpanSet};
-use squall_test_example::{NEW, OLD, course, span};
-use std::alloc::Global;
+use squall_test_example::{course, span};
+use std::alloc::{AllocError, Global};
 use std::process::Abort;
 
 /// The spans of the keys that are loaded, as their bounds, and the plan of where the course leaves all.
@@ -42,6 +41,15 @@ fn set_of(alloc: Global, bounds: &[(&str, &str)]) -> Option<SpanSet> {
         set.insert(span(lo, hi)?).ok()?;
     }
     Some(set)
+}
+
+/// Writes the ranges of the plan.
+fn write_plan(plan: &Plan, out: &mut String) -> Result<(), AllocError> {
+    for range in plan.ranges() {
+        let PlanRange { span, part } = *range;
+        write!(out, "{part} {span} ")?;
+    }
+    Ok(())
 }
 
 /// Writes where the course leaves the keys if these are loaded. There is no other fault than NoMemory.
@@ -118,37 +126,4 @@ fn plans_have_at_most_4096_ranges(rt: HostRuntime) {
     let course = course(rt.alloc()).expect(&rt, "a course");
     holds!(&rt; is_too_much(rt.alloc(), &course, 2046) == Some(false));
     holds!(&rt; is_too_much(rt.alloc(), &course, 2047) == Some(true));
-}
-
-/// Course 1 begins and is not over. The next ones begin from where the keys are.
-static STEPS: [Step; 7] = [
-    Step::Begin(NEW),
-    Step::Open,
-    Step::Begin(OLD),
-    Step::From(OLD, NEW),
-    Step::Issued(2),
-    Step::Tell,
-    Step::Open,
-];
-
-/// What it answers.
-const ANSWERS: &str = concat!(
-    "course 1; opened 1 0; Running; course 2; ",
-    "1 [0:0,3:0) 2 [3:0,5:0) 3 [5:0,9:0) 4 [9:0,end) to ",
-    "1 [0:0,2:0) 3 [2:0,3:0) 2 [3:0,5:0) 3 [5:0,6:0) 4 [6:0,end) ; ",
-    "1 false; opened 2 0; ",
-);
-
-/// What the leader answers to them. None if an allocation fails.
-fn answers(alloc: Global) -> Option<String> {
-    let mut leader = leader(alloc, 0)?;
-    let mut found = String::new(alloc);
-    write_answers(alloc, &mut leader, &STEPS, &mut found)?;
-    Some(found)
-}
-
-#[test]
-fn a_course_begins_before_the_last_one_is_over(rt: HostRuntime) {
-    let found = answers(rt.alloc()).expect(&rt, "answers");
-    holds!(&rt; found.as_str() == ANSWERS);
 }

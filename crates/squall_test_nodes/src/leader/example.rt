@@ -39,7 +39,7 @@ fn runs(rt: &impl Abort, alloc: Global, leader: &mut Leader) -> Option<()> {
 
 /// A leader of the old plan has the course run. None if an allocation fails before.
 fn leads(rt: &impl Abort, alloc: Global) -> Option<()> {
-    let mut leader = leader(alloc, 0)?;
+    let mut leader = leader(alloc)?;
     runs(rt, alloc, &mut leader)
 }
 

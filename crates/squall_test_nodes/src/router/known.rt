@@ -1,6 +1,6 @@
 //! What a router has heard, and hears again: each answer is Ok, whichever allocation is refused.
 
-use super::{Said, delta, heard, report, router};
+use super::{Said, delta, heard, report};
 use squall_router::Router;
 use std::alloc::Global;
 use std::test::Fail;
@@ -50,24 +50,5 @@ fn tolerant_absorb_again(rt: HostRuntime) -> Result<(), Fail> {
             holds!(&rt; absorbs(rt.alloc(), &mut router, said));
         }
     }
-    Ok(())
-}
-
-/// Whether the router has all of what is said, once it has taken the reports of the list in turn.
-fn has_taken(alloc: Global, router: &mut Router, list: &[Said], said: Said) -> Result<bool, Fail> {
-    for one in list {
-        let report = report(alloc, *one).ok_or("a report")?;
-        router.take(&report)?;
-    }
-    let all = delta(alloc, said).ok_or("a delta")?;
-    Ok(router.board().covers(&all))
-}
-
-/// More of a cell is no longer known, and neither is another issue under a number.
-#[test]
-fn more_is_taken(rt: HostRuntime) -> Result<(), Fail> {
-    let mut router = router(rt.alloc()).ok_or("a router")?;
-    let list = [Said::Half, Said::Half, Said::Load, Said::Load];
-    assert!(rt; has_taken(rt.alloc(), &mut router, &list, Said::Load)?);
     Ok(())
 }

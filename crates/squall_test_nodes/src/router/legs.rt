@@ -1,17 +1,6 @@
 //! Legs that the table of a router lends, beside others.
 
-use squall_table::{Leg, Legs};
-
-/// Whether the legs are those of the list.
-pub(crate) fn is_list(legs: Legs, list: &[Leg]) -> bool {
-    let mut at = 0usize;
-    let mut right = true;
-    for leg in legs {
-        right &= list.get(at) == Some(&leg);
-        at = at.wrapping_add(1);
-    }
-    right && at == list.len()
-}
+use squall_table::Legs;
 
 /// Whether both are the same legs.
 pub(crate) fn are_same(one: Legs, other: Legs) -> bool {

@@ -1,13 +1,14 @@
 //! If an allocation fails a world is unchanged, and so are the arguments.
 
 use crate::world::asked::{ASKED, SIX};
-use crate::world::parts::LOADED;
-use crate::world::{Call, NEW, OLD, Range, Said, To, answer, plan, said, world_to};
+use crate::world::{Call, Made, NEW, OLD, Range, Said, To, answer, said, world_to};
 use squall_key::PartId;
-use squall_plan::Plan;
-use squall_world::{Answer, Event, Node, World, WorldFault};
+use squall_world::{Answer, Event, Node, World};
 use std::alloc::Global;
 use std::process::Abort;
+
+/// A part of what partition 3 has loaded.
+const LOADED: Made = Made::Loaded(1, 0, 3, (2, 1, 2, 3));
 
 /// All partitions have heard that sub-plan 0 is opened. Partition 1 gave its keys to partition 3,
 /// which loaded one of two chunks. Messages are on their way.
@@ -258,112 +259,4 @@ fn tolerant_run(rt: HostRuntime) {
 #[test]
 fn events_run(rt: HostRuntime) {
     holds!(&rt; runs_moving(&rt, rt.alloc()) == Some(5));
-}
-
-/// Whether the world took the event, as its twin does. If an allocation failed it is equal to its
-/// twin. None if an allocation fails for the twin.
-fn steps_or_not(
-    rt: &impl Abort,
-    alloc: Global,
-    world: &mut World,
-    twin: &mut World,
-    event: &Event,
-) -> Option<bool> {
-    if world.step(event).is_err() {
-        are_same(rt, alloc, world, twin)?;
-        return Some(false);
-    }
-    twin.step(event).ok()?;
-    Some(true)
-}
-
-/// Whether the worlds took each of the events one by one. None if an allocation fails for the
-/// second.
-fn steps_alike(
-    rt: &impl Abort,
-    alloc: Global,
-    world: &mut World,
-    twin: &mut World,
-    events: &[Event],
-) -> Option<bool> {
-    for event in events {
-        if !steps_or_not(rt, alloc, world, twin, event)? {
-            return Some(false);
-        }
-    }
-    Some(true)
-}
-
-/// The same in a world in which keys are on their way.
-fn steps_beside(rt: &impl Abort, alloc: Global, twin: &mut World) -> Option<bool> {
-    let mut world = world_after(alloc, &NEW, &MOVING)?;
-    steps_alike(rt, alloc, &mut world, twin, &events()?)
-}
-
-/// The same, with such a twin.
-fn steps_moving(rt: &impl Abort, alloc: Global) -> Option<bool> {
-    let mut twin = world_after(alloc, &NEW, &MOVING)?;
-    steps_beside(rt, alloc, &mut twin)
-}
-
-#[test]
-fn tolerant_step(rt: HostRuntime) {
-    let _taken = steps_moving(&rt, rt.alloc());
-}
-
-#[test]
-fn worlds_step(rt: HostRuntime) {
-    holds!(&rt; steps_moving(&rt, rt.alloc()) == Some(true));
-}
-
-/// Whether a world of both plans is made. There is no other fault than NoMemory.
-fn is_made(rt: &impl Abort, alloc: Global, old: &Plan, new: &Plan) -> bool {
-    match World::new(alloc, old, new, 2) {
-        Ok(world) => {
-            holds!(rt; world.parts() == 4);
-            true
-        }
-        Err(fault) => {
-            holds!(rt; matches!(fault, WorldFault::NoMemory));
-            false
-        }
-    }
-}
-
-/// The same, and the new plan is equal to its copy. None if an allocation fails before.
-fn keeps_new(rt: &impl Abort, alloc: Global, old: &Plan, new: &Plan) -> Option<bool> {
-    let copy = new.copied(alloc).ok()?;
-    let made = is_made(rt, alloc, old, new);
-    holds!(rt; *new == copy);
-    Some(made)
-}
-
-/// The same, and the old plan is equal to its copy. None if an allocation fails before.
-fn keeps_old(rt: &impl Abort, alloc: Global, old: &Plan, new: &Plan) -> Option<bool> {
-    let copy = old.copied(alloc).ok()?;
-    let made = keeps_new(rt, alloc, old, new);
-    holds!(rt; *old == copy);
-    made
-}
-
-/// The same, with the new plan. None if an allocation fails before.
-fn try_from(rt: &impl Abort, alloc: Global, old: &Plan) -> Option<bool> {
-    let new = plan(alloc, &NEW)?;
-    keeps_old(rt, alloc, old, &new)
-}
-
-/// Tries to make a world. None if an allocation fails before.
-fn try_new(rt: &impl Abort, alloc: Global) -> Option<bool> {
-    let old = plan(alloc, &OLD)?;
-    try_from(rt, alloc, &old)
-}
-
-#[test]
-fn tolerant_new(rt: HostRuntime) {
-    let _made = try_new(&rt, rt.alloc());
-}
-
-#[test]
-fn worlds_are_made(rt: HostRuntime) {
-    holds!(&rt; try_new(&rt, rt.alloc()) == Some(true));
 }

@@ -1,6 +1,6 @@
 //! Legs that a table lends, beside others.
 
-use squall_table::{Leg, Legs};
+use squall_table::Legs;
 
 /// How many legs there are.
 pub(crate) fn count(legs: Legs) -> usize {
@@ -9,17 +9,6 @@ pub(crate) fn count(legs: Legs) -> usize {
         count = count.wrapping_add(1);
     }
     count
-}
-
-/// Whether the legs are those of the list.
-pub(crate) fn has_legs(legs: Legs, list: &[Leg]) -> bool {
-    let mut at = 0usize;
-    let mut right = true;
-    for leg in legs {
-        right &= list.get(at) == Some(&leg);
-        at = at.wrapping_add(1);
-    }
-    right && at == list.len()
 }
 
 /// Whether both are the same legs.

@@ -1,13 +1,11 @@
 //! Tables of several blocks: patches that split and join legs in several of them, each table beside
-//! that which is built of the same board. Reports and deltas of such tables the tests in C show.
+//! that which is built of the same board. Reports and deltas of such tables, and refused allocations, the tests in C
+//! show.
 
 ghost use Rattle.squall_table.specs.Tables.{IsTable};
 
-mod tolerant;
-
 use super::legs::{are_same, count};
 use super::patches::patch;
-use super::searches::begin;
 use crate::table::{Said, delta};
 use squall_board::{Board, Delta};
 use squall_course::Course;
@@ -18,6 +16,14 @@ use squall_table::RouteTable;
 use std::alloc::Global;
 use std::process::Abort;
 use std::test::Fail;
+
+/// The bound at which the leg of that index begins, and the top behind the last.
+fn begin(index: u32, count: u32) -> Option<Bound> {
+    if index == count {
+        return Some(Bound::TOP);
+    }
+    Bound::new(index.checked_mul(3)?, index)
+}
 
 /// The range of that index among this many: of partition 3 if the index is even, else of 4.
 fn range(index: u32, count: u32) -> Option<PlanRange> {

@@ -1,4 +1,5 @@
-//! Races: what they give, whatever the schedule.
+//! Races: what they give, whatever the schedule. Other numbers of senders and readers the cases of the built program
+//! show, and that a refused allocation loses nothing a race by its lines.
 
 use super::{course, done};
 use squall_board::Board;
@@ -208,25 +209,19 @@ type Numbers = (usize, usize);
 fn all_race_well<R: Threads + Wait + Sync + Abort>(
     rt: &R,
     alloc: Global,
-    numbers: [Numbers; 2],
+    numbers: &[Numbers],
 ) -> Option<()> {
     let setting = two_list_setting(alloc)?;
     for (readers, capacity) in numbers {
-        let well = races_well(rt, alloc, &setting, readers, capacity);
+        let well = races_well(rt, alloc, &setting, *readers, *capacity);
         assert!(rt; well == Some(true), "{readers}");
     }
     Some(())
 }
 
 #[test]
-fn two_senders(rt: HostRuntime) -> Result<(), Fail> {
-    all_race_well(&rt, rt.alloc(), [(1, 1), (3, 65536)]).ok_or("a setting")?;
-    Ok(())
-}
-
-#[test]
 fn no_reader_and_many(rt: HostRuntime) -> Result<(), Fail> {
-    all_race_well(&rt, rt.alloc(), [(0, 2), (64, 2)]).ok_or("a setting")?;
+    all_race_well(&rt, rt.alloc(), &[(0, 2), (64, 2)]).ok_or("a setting")?;
     Ok(())
 }
 
@@ -285,43 +280,5 @@ fn limits(rt: HostRuntime) -> Result<(), Fail> {
         let limit = limit_of(&rt, rt.alloc(), &setting, readers, capacity);
         assert!(rt; limit == wanted, "{wanted}");
     }
-    Ok(())
-}
-
-/// Whether the race of 64 lists gives the board of all their loads.
-fn joins_all<R: Threads + Wait + Sync>(rt: &R, alloc: Global, setting: &Setting) -> Option<bool> {
-    let raced = setting.race(rt, alloc, &[], 1, 16, &Open).ok()?;
-    Some(setting.gave_wanted(&raced, 1))
-}
-
-#[test]
-fn many_senders(rt: HostRuntime) -> Result<(), Fail> {
-    let setting = many_list_setting(rt.alloc(), 64).ok_or("a setting")?;
-    assert!(rt; joins_all(&rt, rt.alloc(), &setting) == Some(true));
-    Ok(())
-}
-
-/// Whether a race ends as it has to, or is refused for a failed allocation, or for a thread, whose start
-/// takes memory of the C library's.
-fn well_or_refused<R: Threads + Wait + Sync>(
-    rt: &R,
-    alloc: Global,
-    setting: &Setting,
-    keys: &[Key; 3],
-) -> bool {
-    match setting.race(rt, alloc, keys, 2, 1, &Open) {
-        Ok(raced) => setting.ended_well(&raced, keys, 2),
-        Err(RaceFault::NoMemory | RaceFault::NoThread) => true,
-        Err(_) => false,
-    }
-}
-
-#[test]
-fn tolerant_race(rt: HostRuntime) -> Result<(), Fail> {
-    let keys = three_keys().ok_or("keys")?;
-    let Some(setting) = two_list_setting(rt.alloc()) else {
-        return Ok(());
-    };
-    assert!(rt; well_or_refused(&rt, rt.alloc(), &setting, &keys));
     Ok(())
 }
