@@ -31,22 +31,33 @@ fn has(rows: &mut MemoryRows, second: u32, bytes: Option<&[u8]>) -> bool {
     }
 }
 
+/// The command, which could be made, is answered by these bytes, or none.
+fn run_one(
+    rt: &impl Abort,
+    rows: &mut MemoryRows,
+    key: Key,
+    command: Option<Command>,
+    bytes: Option<&[u8]>,
+) {
+    let command = command.expect(rt, "memory");
+    assert!(rt; replies(rows, key, &command, bytes));
+}
+
 /// Each command is answered by the row before it.
-fn run_all(rt: &impl Abort, alloc: Global, rows: &mut MemoryRows, key: Key) -> Option<()> {
-    assert!(rt; replies(rows, key, &Command::Get, None));
-    assert!(rt; replies(rows, key, &put(alloc, b"one")?, None));
-    assert!(rt; replies(rows, key, &put(alloc, b"")?, Some(b"one")));
-    assert!(rt; replies(rows, key, &Command::Get, Some(b"")));
-    assert!(rt; replies(rows, key, &Command::Delete, Some(b"")));
-    assert!(rt; replies(rows, key, &Command::Delete, None));
-    Some(())
+fn run_all(rt: &impl Abort, alloc: Global, rows: &mut MemoryRows, key: Key) {
+    run_one(rt, rows, key, Some(Command::Get), None);
+    run_one(rt, rows, key, put(alloc, b"one"), None);
+    run_one(rt, rows, key, put(alloc, b""), Some(b"one"));
+    run_one(rt, rows, key, Some(Command::Get), Some(b""));
+    run_one(rt, rows, key, Some(Command::Delete), Some(b""));
+    run_one(rt, rows, key, Some(Command::Delete), None)
 }
 
 #[test]
 fn commands_are_answered_by_the_row_before(rt: HostRuntime) {
     let mut rows = MemoryRows::new(rt.alloc());
     let key = Key::new(2, 7).expect(&rt, "a key");
-    run_all(&rt, rt.alloc(), &mut rows, key).expect(&rt, "memory");
+    run_all(&rt, rt.alloc(), &mut rows, key);
 }
 
 /// Rows a, b and c at 2:0, 2:1 and 2:5.
@@ -92,12 +103,33 @@ fn others(alloc: Global) -> Option<MemoryRows> {
     Some(rows)
 }
 
-/// A copy of 2:0 up to 2:2 is installed for other keys, too: these have no value in it.
-fn copies_move(rt: &impl Abort, alloc: Global) -> Option<()> {
-    let batch = three(alloc)?.copy(span("2:0", "2:2")?).ok()?;
-    let keys = keys(alloc)?;
+/// A copy of those from 2:0 up to 2:2.
+fn copied(alloc: Global) -> Option<MemoryRows> {
+    let rows = three(alloc)?;
+    rows.copy(span("2:0", "2:2")?).ok()
+}
+
+/// Other rows take over those of the keys.
+fn others_take_over(
+    rt: &impl Abort,
+    alloc: Global,
+    batch: &MemoryRows,
+    keys: &SpanSet,
+) -> Option<()> {
     let mut rows = others(alloc)?;
-    take_over(rt, &mut rows, &batch, &keys)
+    take_over(rt, &mut rows, batch, keys)
+}
+
+/// The copy is installed for other keys, too: these have no value in it.
+fn copy_moves(rt: &impl Abort, alloc: Global, batch: &MemoryRows) -> Option<()> {
+    let keys = keys(alloc)?;
+    others_take_over(rt, alloc, batch, &keys)
+}
+
+/// The same of a copy that is made.
+fn copies_move(rt: &impl Abort, alloc: Global) -> Option<()> {
+    let batch = copied(alloc)?;
+    copy_moves(rt, alloc, &batch)
 }
 
 #[test]

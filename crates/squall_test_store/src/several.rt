@@ -3,9 +3,34 @@
 use crate::stores::{is_row, put, ran, store};
 use squall_errand::Reply;
 use squall_key::Key;
-use squall_store::{Command, MemoryRows, Store};
+use squall_store::{Bytes, Command, MemoryRows, Store};
 use std::alloc::Global;
 use std::process::Abort;
+
+/// The reply of the command, which could be made. None if it did not run, or if an allocation fails.
+fn asks(
+    store: &mut Store<MemoryRows>,
+    key: Key,
+    command: Option<Command>,
+) -> Option<Option<Bytes>> {
+    let command = command?;
+    ran(store.ask(key, 0, &command))
+}
+
+/// What one key had is put at another.
+fn takes(store: &mut Store<MemoryRows>, from: Key, to: Key) -> Option<()> {
+    let value = asks(store, from, Some(Command::Delete))??;
+    asks(store, to, Some(Command::Put(value)))?;
+    Some(())
+}
+
+/// Whether the key has these bytes.
+fn has(store: &mut Store<MemoryRows>, key: Key, bytes: &[u8]) -> bool {
+    match asks(store, key, Some(Command::Get)) {
+        Some(row) => is_row(&row, Some(bytes)),
+        None => false,
+    }
+}
 
 /// A value goes from one key to another, while the partition holds both. Once one is given, that is
 /// the first that is not held.
@@ -13,10 +38,9 @@ fn value_goes(rt: &impl Abort, alloc: Global, store: &mut Store<MemoryRows>) -> 
     let (from, to) = (Key::new(2, 1)?, Key::new(2, 2)?);
     let keys = [from, to];
     assert!(rt; store.first_not_held(&keys, 0).is_none());
-    ran(store.ask(from, 0, &put(alloc, b"seven")?))?;
-    let value = ran(store.ask(from, 0, &Command::Delete))??;
-    ran(store.ask(to, 0, &Command::Put(value)))?;
-    assert!(rt; is_row(&ran(store.ask(to, 0, &Command::Get))?, Some(b"seven")));
+    asks(store, from, put(alloc, b"seven"))?;
+    takes(store, from, to)?;
+    assert!(rt; has(store, to, b"seven"));
     store.give_at(to).ok()?;
     assert!(rt;
         matches!(
