@@ -426,6 +426,7 @@ static void openings_of_routers(void) {
 }
 
 static bool refuse_in_view(const squall_router *router, squall_view *view, long number) {
+    uint32_t part = squall_router_route(router, 7);
     asked = 0;
     refused = number;
     squall_view_open(router, view);
@@ -433,22 +434,28 @@ static bool refuse_in_view(const squall_router *router, squall_view *view, long 
     refused = 0;
     uint32_t status = squall_view_status(view);
     CHECK(fits(status, was_refused));
-    CHECK(squall_view_route(view, 7) == (status == SQUALL_OK ? 1 : SQUALL_NOWHERE));
+    CHECK(squall_view_route(view, 7) == (status == SQUALL_OK ? part : SQUALL_NOWHERE));
     squall_view_close(view);
     return was_refused;
 }
 
 static void openings_of_views(void) {
-    squall_router *router = busy_router();
+    static router_maker *const MADE[] = {busy_router, router_of_many};
     squall_view *view = (squall_view *)room_of(squall_view_size());
-    long number = 1;
-    answered = 0;
-    while (refuse_in_view(router, view, number)) {
-        number++;
+    for (size_t i = 0; i < sizeof MADE / sizeof MADE[0]; i++) {
+        squall_router *router = MADE[i]();
+        see(router, &before);
+        long number = 1;
+        answered = 0;
+        while (refuse_in_view(router, view, number)) {
+            number++;
+        }
+        CHECK(answered > 0);
+        see(router, &after);
+        CHECK(memcmp(before.legs, after.legs, sizeof before.legs) == 0);
+        drop_router(router);
     }
-    CHECK(answered > 0);
     free(view);
-    drop_router(router);
     CHECK(blocks == 0);
 }
 

@@ -608,33 +608,66 @@ static squall_part *full_dest(void) {
     return part;
 }
 
-enum { SPANS = 8 };
+enum { MANY = 300, SPANS = 512 };
+
+/* A source that gave each second one of so many keys: what it holds and gave has several blocks of spans. */
+static squall_part *scattered_source(void) {
+    squall_part *part = open_part(1);
+    squall_chunk chunk;
+    for (uint32_t i = 0; i < MANY; i++) {
+        CHECK(squall_part_give_at(part, squall_rank(2, 2 * i + 1), &chunk) == SQUALL_OK);
+    }
+    return part;
+}
+
+/* A destination that loaded each second one of so many keys. */
+static squall_part *scattered_dest(void) {
+    squall_part *part = open_part(3);
+    for (uint32_t i = 0; i < MANY; i++) {
+        squall_chunk chunk = chunk_of(squall_rank(2, 2 * i + 1), squall_rank(2, 2 * i + 2));
+        CHECK(squall_part_load(part, &chunk) == SQUALL_OK);
+    }
+    return part;
+}
+
+static uint32_t give_between(squall_part *part) {
+    squall_chunk chunk;
+    return squall_part_give_at(part, squall_rank(2, MANY), &chunk);
+}
+
+/* A chunk of a hundred keys, of which each second one was loaded before. */
+static uint32_t load_over_many(squall_part *part) {
+    squall_chunk chunk = chunk_of(squall_rank(2, MANY), squall_rank(2, MANY + 100));
+    return squall_part_load(part, &chunk);
+}
 
 /* What a caller can see: the frame that waits, that of the board, and which keys the partition holds, and gave and
  * loaded in courses 1 and 2. */
 struct seen {
     size_t waits;
     size_t len;
-    uint8_t board[1024];
+    uint8_t board[16384];
     squall_span spans[5][SPANS];
     size_t counts[5];
     uint32_t closed;
 };
 
-static struct seen seen_of(squall_part *part) {
-    struct seen seen;
-    memset(&seen, 0, sizeof seen);
-    seen.waits = squall_part_frame(part, seen.board, sizeof seen.board);
+static struct seen before;
+static struct seen after;
+
+static void see(squall_part *part, struct seen *seen) {
+    memset(seen, 0, sizeof *seen);
+    seen->waits = squall_part_frame(part, seen->board, sizeof seen->board);
     CHECK(gather_board(part) == SQUALL_OK);
-    seen.len = squall_part_frame(part, seen.board, sizeof seen.board);
+    seen->len = squall_part_frame(part, seen->board, sizeof seen->board);
     CHECK(gather_board(part) == SQUALL_OK);
-    seen.counts[0] = squall_part_held(part, 0, seen.spans[0], SPANS);
+    seen->counts[0] = squall_part_held(part, 0, seen->spans[0], SPANS);
     for (uint32_t number = 1; number <= 2; number++) {
-        seen.counts[number] = squall_part_given(part, number, 0, seen.spans[number], SPANS);
-        seen.counts[number + 2] = squall_part_loaded(part, number, 0, seen.spans[number + 2], SPANS);
+        seen->counts[number] = squall_part_given(part, number, 0, seen->spans[number], SPANS);
+        seen->counts[number + 2] = squall_part_loaded(part, number, 0, seen->spans[number + 2], SPANS);
     }
-    seen.closed = squall_part_course_closed(part, 1);
-    return seen;
+    seen->closed = squall_part_course_closed(part, 1);
+    CHECK(seen->len <= sizeof seen->board && seen->counts[0] < SPANS);
 }
 
 /* How often the test that runs now was answered SQUALL_NO_MEMORY. */
@@ -647,7 +680,7 @@ typedef uint32_t part_call(squall_part *part);
 static bool refuse_one(long number, part_maker *made, part_call *call) {
     squall_part *part = made();
     CHECK(gather_board(part) == SQUALL_OK);
-    struct seen before = seen_of(part);
+    see(part, &before);
     asked = 0;
     refused = number;
     uint32_t status = call(part);
@@ -656,7 +689,7 @@ static bool refuse_one(long number, part_maker *made, part_call *call) {
     CHECK(status == SQUALL_OK || (was_refused && status == SQUALL_NO_MEMORY));
     if (status == SQUALL_NO_MEMORY) {
         answered++;
-        struct seen after = seen_of(part);
+        see(part, &after);
         CHECK(memcmp(&before, &after, sizeof before) == 0);
         CHECK(call(part) == SQUALL_OK);
     }
@@ -727,6 +760,9 @@ static void refused_allocations(void) {
     refuse_each(open_dest, gather_board);
     refuse_each(open_dest, gather_digest);
     refuse_each(full_dest, gather_repair);
+    refuse_each(scattered_source, give_between);
+    refuse_each(scattered_source, give_some);
+    refuse_each(scattered_dest, load_over_many);
 }
 
 /* The opening with the allocation of that number refused; whether it made so many. */

@@ -1,7 +1,7 @@
-// What is asked of board files, over readers and writers that work, fail or stop.
+// What standard input is answered as it comes. What is asked of board files the cases of the built program show.
 use crate::texts::copies;
 use squall_cli_ask::*;
-use squall_cli_command::{Ask, Follow, Form, Inquiry, Stream};
+use squall_cli_command::{Follow, Form, Stream};
 use squall_cli_device::{Reader, Writer};
 use squall_cli_lines::Ended;
 use std::alloc::{AllocError, Global};
@@ -30,100 +30,8 @@ impl Files for TwoFiles {
     }
 }
 
-/// What an inquiry brings about: the status, the output, and the text on standard error.
+/// What a stream brings about: the status, the output, and the text on standard error.
 type Wanted = (u8, &'static [u8], &'static [u8]);
-
-/// Whether an inquiry by these words of these files brings that about, or memory is short. The error comes if an allocation
-/// failed before it.
-fn brings(
-    alloc: Global,
-    inquiry: Inquiry,
-    words: &[&str],
-    files: &[&str],
-    wanted: Wanted,
-) -> Result<bool, AllocError> {
-    let ask = Ask {
-        inquiry,
-        words: copies(alloc, words)?,
-        files: copies(alloc, files)?,
-    };
-    // Their room is there before the call, so that a write never fails.
-    let mut out = Vec::with_capacity(alloc, 256)?;
-    let mut err = Vec::with_capacity(alloc, 256)?;
-    let mut input = Reader::new(OPENED);
-    let status = answer_inquiry(
-        alloc,
-        &ask,
-        &mut TwoFiles,
-        &mut input,
-        &mut Writer::new(&mut out),
-        &mut Writer::new(&mut err),
-    );
-    let found = status == wanted.0 && out.as_slice() == wanted.1 && err.as_slice() == wanted.2;
-    Ok(found || status == 4)
-}
-
-const NO_REPORT: &[u8] = b"error: the words are no report: see squall help report\n";
-
-/// What is asked: the inquiry, its words and its files.
-type Asked = (Inquiry, &'static [&'static str], &'static [&'static str]);
-
-/// Inquiries, and what they bring about.
-static CASES: [(Asked, Wanted); 12] = [
-    (
-        (Inquiry::Report, &["opened", "1", "0"], &[]),
-        (0, OPENED, b""),
-    ),
-    (
-        (Inquiry::Report, &["opened", "1"], &[]),
-        (2, b"", NO_REPORT),
-    ),
-    (
-        (Inquiry::Board(Form::Lines), &[], &["opened", "-", "-"]),
-        (0, b"opened 1 1\n", b""),
-    ),
-    ((Inquiry::Merge, &[], &["opened", "-"]), (0, OPENED, b"")),
-    ((Inquiry::Beyond, &[], &["-", "opened"]), (0, b"", b"")),
-    ((Inquiry::Cover, &[], &["-", "-"]), (1, b"", b"")),
-    (
-        (Inquiry::Picture, &[], &["opened", "-"]),
-        (1, b"refused old Json\n", b""),
-    ),
-    (
-        (Inquiry::Routes, &["2:0", "0:1"], &["plan", "plan", "-"]),
-        (0, b"route 2:0 1\nroute 0:1 1\n", b""),
-    ),
-    (
-        (Inquiry::Routes, &["2:0", "2"], &["plan", "plan"]),
-        (1, b"route 2:0 1\nbad line 2: word\n", b""),
-    ),
-    (
-        (Inquiry::Legs(Form::Lines), &[], &["plan", "plan", "opened"]),
-        (0, b"leg [0:0,end) 1\n", b""),
-    ),
-    (
-        (
-            Inquiry::Legs(Form::Lines),
-            &["3:0", "3:0"],
-            &["plan", "plan"],
-        ),
-        (1, b"bad line 1: limit\n", b""),
-    ),
-    (
-        (Inquiry::Digest, &[], &["none"]),
-        (3, b"", b"squall: cannot open none\n"),
-    ),
-];
-
-/// What an inquiry brings about, or that memory is short, whichever allocation is refused.
-#[test]
-fn tolerant_inquiries(rt: HostRuntime) {
-    for ((inquiry, words, files), wanted) in &CASES {
-        if let Ok(found) = brings(rt.alloc(), *inquiry, words, files, *wanted) {
-            assert!(rt; found);
-        }
-    }
-}
 
 /// Whether standard input, which has these bytes, brings that about after these files, or memory is
 /// short. The error comes if an allocation failed before it.

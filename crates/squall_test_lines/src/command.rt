@@ -265,16 +265,13 @@ fn is_followed(
     Ok(follow.stream == stream && line.as_str() == wanted)
 }
 
-/// What the words ask of standard input, or that memory is short, whichever allocation is refused.
 #[test]
-fn tolerant_streams(rt: HostRuntime) {
+fn streams(rt: HostRuntime) -> Result<(), Fail> {
     for (words, stream, wanted) in &FOLLOWED {
-        if let Ok(task) = command(rt.alloc(), words) {
-            if let Ok(found) = is_followed(rt.alloc(), &task, *stream, *wanted) {
-                assert!(rt; found);
-            }
-        }
+        let task = command(rt.alloc(), words).expect(&rt, "a task");
+        assert!(rt; is_followed(rt.alloc(), &task, *stream, *wanted)?);
     }
+    Ok(())
 }
 
 /// Whether the task asks so of board files.
@@ -303,26 +300,5 @@ fn inquiries(rt: HostRuntime) -> Result<(), Fail> {
 fn refused_inquiries(rt: HostRuntime) {
     for words in &REFUSED {
         assert!(rt; asked(&command(rt.alloc(), words)).0 == "bad");
-    }
-}
-
-/// The inquiry of the words, or that memory is short, whichever allocation is refused.
-#[test]
-fn tolerant_inquiries(rt: HostRuntime) {
-    for (words, inquiry, wanted) in &ASKED {
-        if let Ok(task) = command(rt.alloc(), words) {
-            if let Ok(found) = is_asked(rt.alloc(), &task, *inquiry, *wanted) {
-                assert!(rt; found);
-            }
-        }
-    }
-}
-
-/// The task of the words, or that memory is short, whichever allocation is refused.
-#[test]
-fn tolerant_command(rt: HostRuntime) {
-    for (words, wanted) in &CASES {
-        let task = command(rt.alloc(), words);
-        assert!(rt; asked(&task) == *wanted || asked(&task).0 == "no memory");
     }
 }

@@ -265,39 +265,6 @@ fn whole_inputs(rt: HostRuntime) {
     }
 }
 
-/// Whether the run comes out right if an allocation is refused. It writes to room that is there, so
-/// that it alone takes memory.
-fn comes_out_tolerant(alloc: Global) -> Result<bool, AllocError> {
-    let mut taken = Vec::with_capacity(alloc, OUTPUT.len())?;
-    let mut machine = Sample;
-    let mut reader = Reader::new(INPUT.as_slice());
-    let mut writer = Writer::new(&mut taken);
-    let ended = run(alloc, &mut machine, &mut reader, &mut writer);
-    Ok(match ended {
-        Ok(Ended::Fine) => taken.as_slice() == OUTPUT.as_slice(),
-        // Some first lines are answered, each whole.
-        Err(RunFault::NoMemory) => {
-            OUTPUT.starts_with(taken.as_slice()) && taken.last().copied() != Some(b'2')
-        }
-        _ => false,
-    })
-}
-
-#[test]
-fn tolerant_run(rt: HostRuntime) {
-    assert!(rt; comes_out_tolerant(rt.alloc()) != Ok(false));
-}
-
-/// A whole input, or that memory is short; the input stays.
-#[test]
-fn tolerant_whole_input(rt: HostRuntime) {
-    let mut reader = Reader::new(INPUT.as_slice());
-    match read_all(rt.alloc(), &mut reader) {
-        Ok(bytes) => assert!(rt; bytes.as_slice() == INPUT.as_slice()),
-        Err(fault) => assert!(rt; fault == RunFault::NoMemory),
-    }
-}
-
 /// A piece of a text, and what follows it.
 type Cut = Option<(&'static [u8], &'static [u8])>;
 

@@ -9,7 +9,6 @@ use squall_test_example::{NEW, OLD, issue, plan, span};
 use std::alloc::Global;
 use std::process::Abort;
 use std::sync::Arc;
-use std::test::Fail;
 
 /// The three numbers of the cell that is made of these.
 fn cell(number: u32, sub: u32, part: u32) -> Option<(u32, u32, u32)> {

@@ -1,9 +1,9 @@
-//! Tests of lists in blocks.
+//! Tests of lists in blocks. That a refused allocation changes nothing the tests in C show, of tables and sets that are
+//! lists in blocks.
 
 mod example;
 mod plain;
 mod prepared;
-mod tolerant;
 
 use squall_blocks::{Blocks, Draft, Entries, ReadyEntries};
 use squall_key::Bound;

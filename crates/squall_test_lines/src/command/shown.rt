@@ -148,13 +148,3 @@ fn messages(rt: HostRuntime) -> Result<(), Fail> {
     assert!(rt; message(rt.alloc(), TITLE, &["squall", "run", "x"])?.is_empty());
     Ok(())
 }
-
-/// The whole message of the words, or that memory is short.
-#[test]
-fn tolerant_message(rt: HostRuntime) {
-    for (words, lines, pieces) in &SHOWN {
-        if let Ok(text) = message(rt.alloc(), TITLE, words) {
-            assert!(rt; has_all(text.as_str(), *lines, pieces));
-        }
-    }
-}

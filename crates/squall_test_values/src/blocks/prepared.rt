@@ -89,21 +89,3 @@ fn legs_above_a_key(rt: HostRuntime) {
     holds!(&rt; told(lent.whole_above(bound(&rt, 9999), least)) == (9990, 10000, 1));
     holds!(&rt; lent.whole_above(bound(&rt, 10000), least).is_none());
 }
-
-/// The edit is prepared and made, or the blocks come back as they were. It fails if an allocation
-/// fails before.
-fn make_or_not(rt: &impl Abort, alloc: Global) -> Result<(), AllocError> {
-    let blocks = thousand(rt, alloc)?;
-    match prepare_five(rt, alloc, blocks)? {
-        Ok(ready) => holds!(rt; has_five(rt, &ready.make())),
-        Err(left) => {
-            holds!(rt; left.why == Unready::NoMemory && counted(&left.blocks) == (1000, 1000));
-        }
-    }
-    Ok(())
-}
-
-#[test]
-fn tolerant_prepared(rt: HostRuntime) {
-    let _tried = make_or_not(&rt, rt.alloc());
-}

@@ -1,6 +1,5 @@
 //! Joins of several entries and spans in place, beside those that are made apart.
 
-use super::tolerant::tries;
 use super::{join_entry, span};
 use squall_join::{Flag, Join, JoinMap, Max, Pair};
 use squall_span::SpanSet;
@@ -144,52 +143,5 @@ fn spans_in_place(rt: HostRuntime) {
     for round in 0..12u32 {
         let value = spans(&rt, rt.alloc(), round, 20 * round).expect(&rt, "memory");
         alike_spans(&rt, rt.alloc(), &value, round + 99, 1 + round);
-    }
-}
-
-/// Drafts a join, which changes nothing if an allocation fails, and keeps it.
-fn tries_drafts<J: Join>(rt: &impl Abort, alloc: Global, value: &mut J, other: &J) {
-    let Ok(before) = value.copied(alloc) else {
-        return;
-    };
-    if let Ok(draft) = value.draft_join(alloc, other) {
-        *value = J::keep(draft);
-        holds!(rt; value.covers(other) && value.covers(&before));
-    } else {
-        holds!(rt; value.same(&before));
-    }
-}
-
-/// Joins a few cells into the rows.
-fn tries_rows(rt: &impl Abort, alloc: Global, value: &mut Rows) {
-    if let Ok(other) = rows(rt, alloc, 4, 5) {
-        tries_drafts(rt, alloc, value, &other);
-    }
-    if let Ok(other) = rows(rt, alloc, 6, 4) {
-        tries(rt, alloc, value, &other);
-    }
-}
-
-#[test]
-fn tolerant_join_in_of_rows(rt: HostRuntime) {
-    if let Ok(mut value) = rows(&rt, rt.alloc(), 3, 6) {
-        tries_rows(&rt, rt.alloc(), &mut value);
-    }
-}
-
-/// Joins two spans into the set.
-fn tries_spans(rt: &impl Abort, alloc: Global, value: &mut SpanSet) {
-    if let Ok(other) = spans(rt, alloc, 4, 2) {
-        tries_drafts(rt, alloc, value, &other);
-    }
-    if let Ok(other) = spans(rt, alloc, 6, 2) {
-        tries(rt, alloc, value, &other);
-    }
-}
-
-#[test]
-fn tolerant_join_in_of_few_spans(rt: HostRuntime) {
-    if let Ok(mut value) = spans(&rt, rt.alloc(), 3, 20) {
-        tries_spans(&rt, rt.alloc(), &mut value);
     }
 }

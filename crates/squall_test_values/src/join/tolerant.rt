@@ -1,11 +1,10 @@
 //! Each call that allocates, any one of whose allocations may fail: then nothing has changed.
 
-use super::{has_entry, map, span};
+use super::{has_entry, span};
 use squall_join::{Beyond, Join, JoinMap, Max, Pair};
 use squall_span::SpanSet;
 use std::alloc::{AllocError, Global};
 use std::process::Abort;
-use std::test::Fail;
 
 type Inner = JoinMap<u32, Pair<SpanSet, Max>>;
 
@@ -50,44 +49,6 @@ fn tolerant_single(rt: HostRuntime) {
     for number in [0, 3] {
         look_at_single(&rt, rt.alloc(), number);
     }
-}
-
-#[test]
-fn tolerant_join_in_of_one(rt: HostRuntime) -> Result<(), Fail> {
-    let alloc = rt.alloc();
-    let Ok(mut value) = one(&rt, alloc, 1, 2, 10, 0) else {
-        return Ok(());
-    };
-    for place in 0..6u32 {
-        let Ok(other) = one(
-            &rt,
-            alloc,
-            place / 4,
-            place % 3,
-            u64::from(place) * 8,
-            place,
-        ) else {
-            return Ok(());
-        };
-        tries(&rt, alloc, &mut value, &other);
-    }
-    Ok(())
-}
-
-/// Joins three entries into the map.
-fn tries_three(rt: &impl Abort, alloc: Global, value: &mut JoinMap<u32, Max>) {
-    if let Ok(other) = map(alloc, &[(0, 1), (5, 4), (7, 7)]) {
-        tries(rt, alloc, value, &other);
-    }
-}
-
-#[test]
-fn tolerant_join_in_of_many(rt: HostRuntime) -> Result<(), Fail> {
-    let alloc = rt.alloc();
-    if let Ok(mut value) = map(alloc, &[(1, 3), (5, 2), (9, 9)]) {
-        tries_three(&rt, alloc, &mut value);
-    }
-    Ok(())
 }
 
 /// The value is still that of one span. It looks only if no allocation fails.

@@ -4,7 +4,6 @@ ghost use Rattle.std.specs.Prelude.{true};
 
 use squall_join::{Flag, Join, JoinMap, Update, UpdateAt};
 use std::alloc::{AllocError, Global};
-use std::process::Abort;
 
 /// An update that sets the flag.
 #[derive(Clone, Copy)]
@@ -68,33 +67,4 @@ fn updates_at_keys(rt: HostRuntime) {
             .expect(&rt, "memory");
     }
     holds!(&rt; map.len() == 2 && is_raised_at(&map, 4, &[7]) && is_raised_at(&map, 2, &[7, 9]));
-}
-
-/// Sets the flag at both keys of the map, and sees that a failed allocation changes nothing.
-fn raises(
-    rt: &impl Abort,
-    alloc: Global,
-    map: &mut JoinMap<u32, JoinMap<u32, Flag>>,
-    outer: u32,
-    inner: u32,
-) {
-    let Ok(before) = map.copied(alloc) else {
-        return;
-    };
-    if map
-        .update_at(alloc, outer, UpdateAt::new(inner, Raised))
-        .is_ok()
-    {
-        holds!(rt; map.covers(&before) && is_raised_at(map, outer, &[inner]));
-    } else {
-        holds!(rt; map.same(&before));
-    }
-}
-
-#[test]
-fn tolerant_update_at(rt: HostRuntime) {
-    let mut map: JoinMap<u32, JoinMap<u32, Flag>> = JoinMap::empty(rt.alloc());
-    for (outer, inner) in [(4, 7), (2, 9), (4, 7)] {
-        raises(&rt, rt.alloc(), &mut map, outer, inner);
-    }
 }

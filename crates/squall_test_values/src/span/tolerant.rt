@@ -1,7 +1,7 @@
 //! Each call that allocates, any one of whose allocations may fail: then nothing has changed.
 
 use squall_key::Bound;
-use squall_span::{ReadySet, Span, SpanSet};
+use squall_span::{Span, SpanSet};
 use std::alloc::{AllocError, Global};
 use std::process::Abort;
 use std::test::Fail;
@@ -22,30 +22,6 @@ fn few(rt: &impl Abort, alloc: Global, from: u64) -> Result<SpanSet, AllocError>
         set.insert(span(rt, lo, lo.saturating_add(6)))?;
     }
     Ok(set)
-}
-
-#[test]
-fn tolerant_of(rt: HostRuntime) {
-    let span = span(&rt, 3, 9);
-    if let Ok(set) = SpanSet::of(rt.alloc(), &span) {
-        holds!(&rt; set.first() == Some(span) && set.len() == 1);
-    }
-}
-
-#[test]
-fn tolerant_insert(rt: HostRuntime) -> Result<(), Fail> {
-    let mut set = SpanSet::empty(rt.alloc());
-    for place in 0..20u64 {
-        let Ok(before) = set.copied(rt.alloc()) else {
-            return Ok(());
-        };
-        if set.insert(span(&rt, 10 * place, 10 * place + 5)).is_err() {
-            holds!(&rt; set == before);
-            return Ok(());
-        }
-        holds!(&rt; set.covers(&before) && !before.covers(&set));
-    }
-    Ok(())
 }
 
 /// The set is still that of a few spans from the key on. It looks only if no allocation fails.
@@ -122,82 +98,6 @@ fn tolerant_remove(rt: HostRuntime) -> Result<(), Fail> {
     Ok(())
 }
 
-#[test]
-fn tolerant_with_room(rt: HostRuntime) -> Result<(), Fail> {
-    if let Ok(mut ready) = ReadySet::with_room(rt.alloc(), 2) {
-        ready.insert(span(&rt, 70, 73));
-        ready.remove(span(&rt, 71, 72));
-        holds!(&rt; ready.into_set().count() == 2);
-    }
-    Ok(())
-}
-
-#[test]
-fn tolerant_draft_insert(rt: HostRuntime) {
-    let Ok(set) = few(&rt, rt.alloc(), 0) else {
-        return;
-    };
-    match set.draft_insert(span(&rt, 70, 73)) {
-        Ok(draft) => holds!(&rt; draft.keep().count() == 39),
-        Err(set) => is_few(&rt, rt.alloc(), &set, 0),
-    }
-}
-
-#[test]
-fn tolerant_draft_remove(rt: HostRuntime) {
-    let Ok(set) = few(&rt, rt.alloc(), 0) else {
-        return;
-    };
-    match set.draft_remove(span(&rt, 2, 3)) {
-        Ok(draft) => is_few(&rt, rt.alloc(), &draft.undo(), 0),
-        Err(set) => is_few(&rt, rt.alloc(), &set, 0),
-    }
-}
-
-#[test]
-fn tolerant_into_list(rt: HostRuntime) {
-    if let Ok(set) = few(&rt, rt.alloc(), 0) {
-        if let Ok(spans) = set.into_list(rt.alloc()) {
-            holds!(&rt; spans.len() == 6);
-        }
-    }
-}
-
-/// Drafts that some keys come to the set of a few spans.
-fn draft_all(rt: &impl Abort, alloc: Global, set: SpanSet, spans: Vec<Span>) {
-    match set.draft_insert_all(spans) {
-        Ok(draft) => holds!(rt; draft.keep().count() == 54),
-        Err(set) => is_few(rt, alloc, &set, 0),
-    }
-}
-
-#[test]
-fn tolerant_draft_insert_all(rt: HostRuntime) {
-    if let (Ok(set), Ok(other)) = (few(&rt, rt.alloc(), 0), few(&rt, rt.alloc(), 3)) {
-        if let Ok(spans) = other.into_list(rt.alloc()) {
-            draft_all(&rt, rt.alloc(), set, spans);
-        }
-    }
-}
-
-/// Adds one set to the other.
-fn add_few(rt: &impl Abort, alloc: Global, set: &mut SpanSet, other: &SpanSet) {
-    match set.add(alloc, other) {
-        Ok(()) => holds!(rt; set.count() == 54),
-        Err(_) => is_few(rt, alloc, set, 0),
-    }
-}
-
-#[test]
-fn tolerant_add(rt: HostRuntime) {
-    let Ok(mut set) = few(&rt, rt.alloc(), 0) else {
-        return;
-    };
-    if let Ok(other) = few(&rt, rt.alloc(), 3) {
-        add_few(&rt, rt.alloc(), &mut set, &other);
-    }
-}
-
 /// A set of many spans in one list, which came in order.
 fn many(rt: &impl Abort, alloc: Global) -> Result<SpanSet, AllocError> {
     let mut set = SpanSet::empty(alloc);
@@ -208,18 +108,6 @@ fn many(rt: &impl Abort, alloc: Global) -> Result<SpanSet, AllocError> {
 }
 
 #[test]
-fn tolerant_insert_among_many(rt: HostRuntime) {
-    let Ok(mut set) = many(&rt, rt.alloc()) else {
-        return;
-    };
-    let count = match set.insert(span(&rt, 1507, 1509)) {
-        Ok(()) => 1802,
-        Err(_) => 1800,
-    };
-    holds!(&rt; set.count() == count);
-}
-
-#[test]
 fn tolerant_remove_among_many(rt: HostRuntime) {
     let Ok(mut set) = many(&rt, rt.alloc()) else {
         return;
@@ -227,18 +115,6 @@ fn tolerant_remove_among_many(rt: HostRuntime) {
     let count = match set.remove(span(&rt, 502, 2504)) {
         Ok(()) => 598,
         Err(_) => 1800,
-    };
-    holds!(&rt; set.count() == count);
-}
-
-#[test]
-fn tolerant_drafts_among_many(rt: HostRuntime) {
-    let Ok(set) = many(&rt, rt.alloc()) else {
-        return;
-    };
-    let (set, count) = match set.draft_remove(span(&rt, 502, 2504)) {
-        Ok(draft) => (draft.keep(), 598),
-        Err(set) => (set, 1800),
     };
     holds!(&rt; set.count() == count);
 }
