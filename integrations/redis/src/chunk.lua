@@ -36,7 +36,7 @@ redis.register_function({
 })
 
 -- Keys; NUMBER LO EDGE [PART GENERATION MOST]: the keys of the move from LO on, below EDGE, are given. Nothing is if one of
--- those that are named is too large.
+-- those that are named is too large, or if the course is closed.
 redis.register_function({
   function_name = 'squall_give',
   flags = { 'allow-oom' },
@@ -44,6 +44,8 @@ redis.register_function({
     local move, refused = own_move(args, 'out')
     if refused then
       return refused
+    elseif args[3] > move.edge and known().is_closed then
+      return refuse('CLOSED ' .. args[1])
     end
     for at, key in ipairs(args[3] > move.edge and keys or {}) do
       local size = oversize(key, tonumber(args[6]))
@@ -94,9 +96,10 @@ redis.register_function('squall_put', function(keys, args)
   elseif args[2] < move.edge or course.pulled[args[2]] then
     return redis.status_reply('loaded')
   end
-  local late = before(args[5], args[6]) or of_past(move, args[6])
-  if late then
-    return late
+  local late = before(args[5], args[6])
+  local refused = late and refuse(late) or of_past(move, args[6])
+  if refused then
+    return refused
   end
   redis.call('RESTORE', keys[1], args[3], args[4], 'REPLACE', 'ABSTTL')
   arrive(move, args[2], keys[1], args[6])

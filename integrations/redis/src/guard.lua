@@ -16,6 +16,7 @@
 -- squall:arrived the rank and the name of each row that was put and is not loaded
 -- squall:back    of a move's LO the generation of its source up to which nothing counts any more that is not loaded: the source
 --                takes it back
+-- squall:closed  the course in which it gives nothing more, since that is turned back
 -- squall:pulled  of a rank that has moved ahead of its move's edge how far it is: given, or forgotten:ROWS once the source
 --                has unlinked so many rows of it, or loaded
 --
@@ -59,7 +60,9 @@ local function known()
     for _, text in ipairs(redis.call('LRANGE', 'squall:moves', 0, -1)) do
       moves[#moves + 1] = read_move(text)
     end
-    kept = { number = redis.call('GET', 'squall:number') or '0', moves = moves, pulled = read_pulled() }
+    local number = redis.call('GET', 'squall:number') or '0'
+    local is_closed = redis.call('GET', 'squall:closed') == number
+    kept = { number = number, is_closed = is_closed, moves = moves, pulled = read_pulled() }
   end
   return kept
 end
@@ -233,95 +236,12 @@ redis.register_function({
   end,
 })
 
--- The first move that is not over: not given and forgotten here, or not loaded.
-local function unfinished(course)
-  for _, move in ipairs(course.moves) do
-    local is_out = move.role == 'out'
-    if move.role ~= 'none' and (move.edge < move.hi or is_out and move.forgot < move.hi) then
-      return move
-    end
-  end
-end
-
-local function is_same(course, args)
-  for at, move in ipairs(course.moves) do
-    if args[4 + at] ~= table.concat({ move.lo, move.hi, move.role, move.peer }, ' ') then
-      return false
-    end
-  end
-  return #args == 4 + #course.moves and redis.call('GET', 'squall:old') == args[2]
-    and redis.call('GET', 'squall:new') == args[3]
-end
-
--- Why a course may not begin here.
-local function fault(course, args)
-  local number, known_number = tonumber(args[1]), tonumber(course.number)
-  local move = unfinished(course)
-  if number < known_number then
-    return 'LATE ' .. course.number
-  elseif move then
-    return 'RUNNING ' .. course.number .. ' ' .. move.lo
-  elseif string.match(args[4], '^fresh') then
-    return nil
-  elseif known_number == 0 then
-    return 'EMPTY'
-  elseif number > known_number + 1 then
-    return 'GAP ' .. course.number
-  elseif redis.call('GET', 'squall:new') ~= args[2] then
-    return 'OTHER ' .. course.number
-  end
-end
-
--- The same arguments as squall_begin has: whether it would begin, or why not.
-redis.register_function({
-  function_name = 'squall_may_begin',
-  flags = { 'no-writes', 'allow-oom' },
-  callback = function(_, args)
-    local course = known()
-    if args[1] == course.number then
-      return is_same(course, args) and redis.status_reply('again') or refuse('CLASH ' .. course.number)
-    end
-    local why = fault(course, args)
-    return why and refuse(why) or redis.status_reply('fresh')
-  end,
-})
-
--- Begins it: the same arguments as squall_begin has.
-local function begin(args)
-  kept = nil
-  redis.call('DEL', 'squall:moves', 'squall:edge', 'squall:forgot', 'squall:gone', 'squall:put', 'squall:back',
-    'squall:pulled')
-  redis.call('UNLINK', 'squall:arrived')
-  redis.call('MSET', 'squall:number', args[1], 'squall:old', args[2], 'squall:new', args[3])
-  for at = 5, #args do
-    redis.call('RPUSH', 'squall:moves', args[at])
-  end
-end
-
--- NUMBER OLD NEW fresh|fresh:SEEN|known MOVE..: begins a course. One that has begun stays as it is. A partition
--- that the old plan does not name has no keys, and may be fresh. SEEN is what others have seen of one that was there
--- before: its generation rises above that. The answer ends with the generation.
-redis.register_function('squall_begin', function(_, args)
-  local course = known()
-  if args[1] == course.number then
-    local generation = redis.call('GET', 'squall:generation') or '0'
-    local again = redis.status_reply('again ' .. generation)
-    return is_same(course, args) and again or refuse('CLASH ' .. course.number)
-  end
-  local why = fault(course, args)
-  if why then
-    return refuse(why)
-  end
-  begin(args)
-  return redis.status_reply('begun ' .. grow(string.match(args[4], '^fresh:(%d+)$')))
-end)
-
 -- Why a step does not count that follows one at another partition, which had that generation then: a mover that was
 -- asleep may know of what was lost there since.
 local function before(part, generation)
   local since = generation and redis.call('HGET', 'squall:since', part)
   if since and tonumber(generation) < tonumber(since) then
-    return refuse('BEFORE ' .. part)
+    return 'BEFORE ' .. part
   end
 end
 
@@ -336,7 +256,7 @@ local function own_move(args, role)
     return nil, refuse('STRANGER')
   end
   local late = before(args[4], args[5])
-  return not late and move, late
+  return not late and move, late and refuse(late)
 end
 
 -- What was pulled below a rank is like all else of the move from now on. A source may have back what it has not forgotten, so

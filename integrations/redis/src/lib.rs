@@ -29,6 +29,7 @@ pub mod tls;
 /// The functions of a partition.
 pub const GUARD: &str = concat!(
     include_str!("guard.lua"),
+    include_str!("begin.lua"),
     include_str!("chunk.lua"),
     include_str!("pull.lua"),
     include_str!("losses.lua")

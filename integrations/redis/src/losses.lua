@@ -3,7 +3,7 @@
 
 -- What a partition says of itself: its number, its generation, the course of its fence, the run in which it let
 -- routers in, what it has seen of others, and each move as LO HI ROLE PEER EDGE FORGOT GONE RANK:STATE.. with the ranks
--- that were pulled.
+-- that were pulled. If it is closed in its course, it says so last.
 redis.register_function({
   function_name = 'squall_state',
   flags = { 'no-writes', 'allow-oom' },
@@ -23,6 +23,7 @@ redis.register_function({
       said[at + 1] = redis.call('GET', 'squall:' .. name) or ''
     end
     said[5], said[6] = redis.call('HGETALL', 'squall:seen'), lines
+    said[7] = course.is_closed and 'closed' or nil
     return said
   end,
 })

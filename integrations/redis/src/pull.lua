@@ -4,15 +4,6 @@
 -- No more ranks that were given so are kept at a source.
 local PULLED = 1024
 
--- The rank after another one.
-local function after(rank)
-  local root, second = tonumber(string.sub(rank, 1, 8), 16), tonumber(string.sub(rank, 9), 16) + 1
-  if second == 4294967296 then
-    root, second = root + 1, 0
-  end
-  return string.format('%08x%08x', root, second)
-end
-
 -- Notes how far a rank is. Who watches the edges learns of it. What was loaded is no longer a row that may go back.
 local function note(move, rank, state)
   if state == 'loaded' then
@@ -46,7 +37,7 @@ local function told(args, state, has_changed)
 end
 
 -- Keys; NUMBER LO RANK [PART GENERATION MOST]: the keys of that rank are given, unless one of those that are named is too
--- large. Also what was given with a chunk is noted, since that may go back.
+-- large, or the course is closed. Also what was given with a chunk is noted, since that may go back.
 redis.register_function({
   function_name = 'squall_pull_give',
   flags = { 'allow-oom' },
@@ -59,6 +50,8 @@ redis.register_function({
     local state = rank < move.forgot and 'forgotten' or known().pulled[rank]
     if state then
       return told(args, string.match(state, '^%a+'))
+    elseif known().is_closed then
+      return refuse('CLOSED ' .. args[1])
     elseif redis.call('GET', 'squall:fence') ~= args[1] then
       return refuse('EARLY')
     elseif redis.call('HLEN', 'squall:pulled') >= PULLED then

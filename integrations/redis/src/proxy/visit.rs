@@ -14,7 +14,7 @@ use crate::mover::is_own;
 use crate::resp::{push, Value};
 
 /// The partition's own keys, which are no client's.
-const OWN: [&str; 19] = [
+const OWN: [&str; 20] = [
     "squall:number",
     "squall:old",
     "squall:new",
@@ -27,6 +27,7 @@ const OWN: [&str; 19] = [
     "squall:arrived",
     "squall:back",
     "squall:pulled",
+    "squall:closed",
     "squall:generation",
     "squall:seen",
     "squall:since",
