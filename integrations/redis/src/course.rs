@@ -1,14 +1,15 @@
 //! Plans, and what a course moves between two of them.
 
 use crate::args::Args;
-use crate::fault::{Done, Trying};
+use crate::fault::{Done, Fault, Trying};
 use crate::keymap::hex;
 pub use squall::Move;
-use squall::{Course, Leg, Rank};
+use squall::{Course, Error, Leg, PlanFault, Rank, Span};
 use std::collections::BTreeSet;
 use std::ops::Range;
 
 /// A plan, as its text and as its ranges.
+#[derive(Clone)]
 pub struct Plan {
     /// The text.
     pub text: Vec<u8>,
@@ -39,6 +40,75 @@ impl Plan {
         let ranges: Vec<String> = legs.iter().map(|leg| format!("{} {}", hex(leg.hi), leg.part)).collect();
         Ok(Plan { text, ranges: ranges.join(" "), parts: legs.iter().map(|leg| leg.part).collect() })
     }
+
+    /// The plan of these ranges, as a partition keeps them.
+    ///
+    /// # Errors
+    ///
+    /// They are no plan.
+    pub fn of_ranges(ranges: &str) -> Done<Plan> {
+        let other = || Fault::new(format!("ranges of another form: {ranges}"));
+        let words: Vec<&str> = ranges.split(' ').collect();
+        let read = |pair: &[&str]| -> Option<(Rank, u32)> {
+            let [hi, part] = pair else { return None };
+            Some((Rank(u64::from_str_radix(hi, 16).ok()?), part.parse().ok()?))
+        };
+        let ends: Vec<_> = words.chunks(2).map(read).collect::<Option<_>>().ok_or_else(other)?;
+        Plan::read(text(&ends).into_bytes())
+    }
+}
+
+/// The plan of where the keys are in a course: those of the spans at their partition of the new plan, and all others at that of
+/// the old one. The spans may overlap.
+///
+/// # Errors
+///
+/// It would have more ranges than a plan may have.
+pub fn plan_left(number: u32, old: &Plan, new: &Plan, loaded: &[Span]) -> Done<Plan> {
+    let course = Course::open(number, &old.text, &new.text)?;
+    match left(&course, loaded) {
+        Err(Error::OldPlan(PlanFault::TooMany)) => {
+            Err(Fault::new("the plan of where the keys are has more than 4096 ranges"))
+        }
+        text => Plan::read(text?.into_bytes()),
+    }
+}
+
+/// The text of that plan.
+// TEMPORARY: `Course::left` of the library makes it.
+fn left(course: &Course, loaded: &[Span]) -> Result<String, Error> {
+    let (old, new) = (course.old_plan(), course.new_plan());
+    let mut bounds: BTreeSet<Rank> = old.iter().chain(&new).map(|leg| leg.hi).collect();
+    bounds.extend(loaded.iter().flat_map(|it| [it.lo, it.hi]).filter(|&it| it > Rank(0)));
+    let mut ends: Vec<(Rank, u32)> = Vec::new();
+    let mut lo = Rank(0);
+    for hi in bounds {
+        let is_loaded = loaded.iter().any(|it| it.lo <= lo && lo < it.hi);
+        let legs = if is_loaded { &new } else { &old };
+        let part = legs[legs.partition_point(|leg| leg.hi <= lo)].part;
+        match ends.last_mut() {
+            Some(last) if last.1 == part => last.0 = hi,
+            _ => ends.push((hi, part)),
+        }
+        lo = hi;
+    }
+    match ends.len() {
+        0..=4096 => Ok(text(&ends)),
+        _ => Err(Error::OldPlan(PlanFault::TooMany)),
+    }
+}
+
+/// The text of the plan whose ranges end there.
+fn text(ends: &[(Rank, u32)]) -> String {
+    let pair = |it: Rank| format!("[{},{}]", it.0 >> 32, it.0 & 0xffff_ffff);
+    let mut lo = Rank(0);
+    let ranges = ends.iter().map(|&(hi, part)| {
+        let to = if hi == Rank::END { "\"end\"".to_string() } else { pair(hi) };
+        let range = format!(r#"{{"part":{part},"from":{},"to":{to}}}"#, pair(lo));
+        lo = hi;
+        range
+    });
+    format!(r#"{{"plan":[{}]}}"#, ranges.collect::<Vec<_>>().join(","))
 }
 
 /// What moves between the plans by rising key, and the frame by which routers learn of the course.
@@ -99,6 +169,39 @@ mod tests {
         assert_eq!(read.parts, BTreeSet::from([1, 3]));
         assert_eq!(read.ranges, plan(&NEW.replace(',', " , ")).ranges);
         assert!(Plan::read(b"{}".to_vec()).is_err());
+    }
+
+    #[test]
+    fn a_plan_is_read_as_a_partition_keeps_it() {
+        let read = Plan::of_ranges(&plan(NEW).ranges).unwrap();
+        assert_eq!((read.ranges, read.parts), (plan(NEW).ranges, plan(NEW).parts));
+        assert!(["", "0000000200000000", "x 1", "0000000200000000 1"]
+            .iter()
+            .all(|it| Plan::of_ranges(it).is_err()));
+    }
+
+    #[test]
+    fn keys_are_where_a_course_leaves_them() {
+        let (old, new) = (plan(OLD), plan(NEW));
+        let left = |spans: &[(u64, u64)]| {
+            let span = |&(lo, hi)| Span { lo: Rank(lo), hi: Rank(hi) };
+            plan_left(2, &old, &new, &spans.iter().map(span).collect::<Vec<_>>()).map(|it| it.ranges)
+        };
+        let (two, end) = (Rank::new(2, 0).0, Rank::END.0);
+        assert_eq!(
+            (left(&[]).unwrap(), left(&[(two, end)]).unwrap()),
+            (old.ranges.clone(), new.ranges.clone())
+        );
+        // The first keys of the move, and one that was pulled.
+        assert_eq!(
+            left(&[(two + 8, two + 9), (two, two + 4), (two + 2, two + 5)]).unwrap(),
+            "0000000200000000 1 0000000200000005 3 0000000200000008 1 0000000200000009 3 ffffffff00000000 1"
+        );
+        // Of keys that do not move it says nothing.
+        assert_eq!(left(&[(0, two + 5)]).unwrap(), left(&[(two, two + 5)]).unwrap());
+        let many: Vec<(u64, u64)> = (0..2048).map(|at| (two + 2 * at + 1, two + 2 * at + 2)).collect();
+        assert!(left(&many[1..]).is_ok());
+        assert!(left(&many).unwrap_err().to_string().contains("more than 4096 ranges"));
     }
 
     #[test]

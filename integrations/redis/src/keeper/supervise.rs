@@ -130,7 +130,15 @@ mod tests {
         let (edge, forgot, pulled) = (Rank(edge), Rank(100), BTreeMap::new());
         let stand = Stand { lo, hi, role, peer, edge, forgot, gone: 0, pulled };
         let run = Some("first".to_string());
-        State { number, generation: 1, fence: number, run, seen: BTreeMap::new(), moves: vec![stand] }
+        State {
+            number,
+            generation: 1,
+            fence: number,
+            run,
+            seen: BTreeMap::new(),
+            moves: vec![stand],
+            is_closed: false,
+        }
     }
 
     fn why(change: impl FnOnce(&mut State, &mut Life)) -> Option<String> {

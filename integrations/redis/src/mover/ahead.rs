@@ -68,6 +68,9 @@ impl Feeder<'_> {
                 self.name(it, &key, Why::TooLarge { size, most: self.sizes.most });
                 return Ok(None);
             }
+            // It has just gone back.
+            Ahead::Closed if self.job.is_closed => return Ok(None),
+            Ahead::Closed => return Err(self.source.explain(&format!("SQUALL CLOSED {}", self.job.number))),
             Ahead::Forgotten => self.find_ahead(it, rank)?,
             Ahead::Given(generation) => {
                 // From now on the source serves no key of the rank, and no new one comes.

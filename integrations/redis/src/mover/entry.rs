@@ -2,7 +2,8 @@
 //! with less.
 
 use super::losses::Loss;
-use super::partition::{Beginning, Partition};
+use super::partition::{Beginning, Partition, Start};
+use super::state::State;
 use super::survey::Survey;
 use super::Mover;
 use crate::fault::{Done, Fault};
@@ -42,6 +43,7 @@ impl Mover {
         let is_known = |part| !losses.contains_key(&part) || survey.facts[&part].number == self.number;
         let mut known = partitions.iter_mut().filter(|it| is_known(it.part));
         known.try_for_each(|it| it.may_begin(&beginning(it.part)))?;
+        self.stop_at("may-begin");
         for at in 0..partitions.len() {
             let part = partitions[at].part;
             if losses.contains_key(&part) {
@@ -49,8 +51,21 @@ impl Mover {
             } else {
                 partitions[at].begin(&beginning(part))?;
             }
+            self.stop_at("begun-at-one");
         }
         Ok(())
+    }
+
+    /// Nothing, unless a partition is closed in this course: then it is being turned back, and gives nothing more.
+    pub(super) fn refuse_closed(&self, partitions: &[Partition], survey: &Survey) -> Done<()> {
+        let is_closed = |it: &&Partition| {
+            let state = &survey.facts[&it.part];
+            state.number == self.number && state.is_closed
+        };
+        match partitions.iter().find(is_closed) {
+            None => Ok(()),
+            Some(closed) => Err(closed.explain(&format!("SQUALL CLOSED {}", self.number))),
+        }
     }
 
     /// Whether a partition has said that the plans are the right ones: one that has lost nothing, or this one.
@@ -62,13 +77,17 @@ impl Mover {
     }
 
     pub(super) fn beginning<'a>(&'a self, part: u32, survey: &Survey) -> Beginning<'a> {
-        Beginning {
-            old: &self.old.ranges,
-            new: &self.new.ranges,
-            is_fresh: self.number == 1 || !self.old.parts.contains(&part),
-            seen: survey.seen(part).0,
-            moves: &self.moves,
-        }
+        // What one has done that has lost some of it is not known.
+        let is_known = |(&it, state): &(&u32, &State)| it != part && state.generation >= survey.seen(it).0;
+        let others = survey.facts.iter().filter(is_known);
+        let start = if self.left.contains(&part) {
+            Start::Left(others.map(|(&it, state)| (it, state.generation)).collect())
+        } else if self.number == 1 || !self.old.parts.contains(&part) {
+            Start::Fresh(survey.seen(part).0)
+        } else {
+            Start::Known
+        };
+        Beginning { old: &self.old.ranges, new: &self.new.ranges, start, moves: &self.moves }
     }
 
     /// What each partition has lost that should have keys.
@@ -84,10 +103,13 @@ impl Mover {
     }
 
     /// Whether it should, as far as the plans say. One that the old plan does not name has none before the course
-    /// has begun everywhere: it may be new, or may have been away.
+    /// has begun everywhere: it may be new, or may have been away. One of the course before, if that is turned back, has to
+    /// know of it.
     fn should_have_keys(&self, part: u32, survey: &Survey) -> bool {
         let has_begun = survey.facts[&part].number == self.number || survey.fence() == self.number;
-        self.old.parts.contains(&part) || has_begun && self.new.parts.contains(&part)
+        self.old.parts.contains(&part)
+            || self.left.contains(&part)
+            || has_begun && self.new.parts.contains(&part)
     }
 
     /// Nothing, unless a partition has lost something and that was not accepted. Then the others are let in.

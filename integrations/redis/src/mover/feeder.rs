@@ -39,6 +39,8 @@ pub struct Job<'a> {
     pub pace: &'a Pace,
     /// The keys that can't be moved.
     pub stuck: &'a AllStuck,
+    /// Whether the course is closed: then only what was given moves.
+    pub is_closed: bool,
     /// Whether a source has lost a connection: all of them then begin again.
     pub is_over: AtomicBool,
     /// The runs of the servers in which the mover has looked at them.
@@ -75,7 +77,9 @@ impl Job<'_> {
             return Ok(());
         };
         let mut feeder = self.feeder(moves, first)?;
-        self.progress.expect(feeder.index.len());
+        if !self.is_closed {
+            self.progress.expect(feeder.index.len());
+        }
         let left = ahead::left(moves, &feeder.source.state()?, self.number);
         feeder.pull_all(&left)?;
         let (given, loaded) = (feeder.source.state()?, feeder.dest.state()?);
@@ -88,9 +92,20 @@ impl Job<'_> {
             feeder.finish_back(it, dest.edge)?;
             feeder.report_ahead(it, dest)?;
             let step = Step { edge: dest.edge, generation: loaded.generation };
-            feeder.run(it, source.forgot, step)?;
+            let hi = if self.is_closed { feeder.given } else { it.hi };
+            feeder.run(&Move { hi, ..*it }, source.forgot, step)?;
+            if self.is_closed {
+                feeder.clear(it)?;
+            }
         }
         feeder.forget(true)
+    }
+
+    /// The same for the course of another number.
+    pub fn of_course(&self, number: u32) -> Job<'_> {
+        let Job { servers, bus, progress, chunk, pause, pace, stuck, .. } = *self;
+        let (is_over, runs) = (AtomicBool::new(false), Mutex::default());
+        Job { number, servers, bus, progress, chunk, pause, pace, stuck, is_closed: false, is_over, runs }
     }
 
     /// Loads what was given to the moves' one destination and is not loaded, before routers are let in there.

@@ -116,6 +116,18 @@ impl Feeder<'_> {
         self.index.listen()
     }
 
+    /// Removes rows of a move that were put and are given no longer, if there are any: their source has lost that it gave them.
+    pub(super) fn clear(&mut self, it: &Move) -> Done<()> {
+        let given = self.source.given(it)?;
+        if !self.dest.has_arrived(it, given.edge)? {
+            return Ok(());
+        }
+        match self.dest.give_back(it, given.edge, given.generation)? {
+            Back::Done(step) if step.edge == given.edge => Ok(()),
+            _ => Err(Fault::lost("another mover has loaded more meanwhile")),
+        }
+    }
+
     /// Gives back what a mover that has ended amid that has left: whether there was any. Nothing of it is loaded.
     pub(super) fn finish_back(&mut self, it: &Move, loaded: Rank) -> Done<bool> {
         if self.given <= loaded || self.dest.gives_back(it)? < Some(self.source.given(it)?.generation) {

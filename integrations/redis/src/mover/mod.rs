@@ -17,10 +17,12 @@ mod patience;
 mod progress;
 mod pull;
 mod pulls;
+mod refusals;
 mod sizes;
 pub(crate) mod state;
 mod steps;
 pub(crate) mod survey;
+mod turn;
 
 use crate::args::{self, Args, Usage};
 use crate::bus::{Node, Options};
@@ -64,6 +66,7 @@ pub const USAGE: Usage = Usage {
         "pause",
         "settle",
         pull::OPTION,
+        turn::TO,
         "rate",
         "rate-file",
         patience::OPTION,
@@ -75,7 +78,7 @@ pub const USAGE: Usage = Usage {
         tls::OPTIONS[1],
         tls::OPTIONS[2],
     ],
-    flags: &["init", "dry-run", tls::FLAGS[0], tls::FLAGS[1]],
+    flags: &["init", "dry-run", turn::FLAG, tls::FLAGS[0], tls::FLAGS[1]],
 };
 
 /// A pause between the issue and the fence, in which routers hear of the course.
@@ -93,6 +96,8 @@ struct Mover {
     secret: String,
     /// Partitions that go on with what they have if they have come back with less.
     accepted: BTreeSet<u32>,
+    /// The partitions that begin from where the keys are: those of the course before, if that is turned back.
+    left: BTreeSet<u32>,
 }
 
 /// Runs the program.
@@ -110,8 +115,15 @@ pub fn run(args: &Args) -> Done<()> {
     }
     let plans = (Plan::of(args, "old")?, Plan::of(args, "new")?);
     args.need("number")?;
-    let number = args.number("number", 0, 2, u64::from(u32::MAX))? as u32;
+    let to = turn::to(args, &plans.0)?;
+    let most = u64::from(u32::MAX - u32::from(to.is_some()));
+    let number = args.number("number", 0, 2, most)? as u32;
     let mover = Mover::new(args, number, plans)?;
+    match to {
+        Some(to) if args.has("dry-run") => return mover.preview_turn(&to),
+        Some(to) => return mover.turn_back(args, &to),
+        None => {}
+    }
     if args.has("dry-run") {
         return mover.preview();
     }
@@ -125,13 +137,7 @@ impl Mover {
     fn new(args: &Args, number: u32, (old, new): (Plan, Plan)) -> Done<Mover> {
         let password = args.password("password-file")?;
         let servers = args.parts()?;
-        for part in old.parts.union(&new.parts) {
-            if !servers.contains_key(part) {
-                return Err(Fault::new(format!(
-                    "a plan names partition {part}, which has no address: --part {part}=HOST:PORT is missing"
-                )));
-            }
-        }
+        need_addresses(&servers, &(&old.parts | &new.parts))?;
         let accepted = accepted(args, &servers)?;
         let (moves, issue) = course::issue(number, &old, &new)?;
         let with = |server| Server { password: password.clone(), ..server };
@@ -144,11 +150,17 @@ impl Mover {
             servers: servers.into_iter().map(|(part, server)| (part, with(server))).collect(),
             secret: args.secret()?,
             accepted,
+            left: BTreeSet::new(),
         })
     }
 
     /// Moves all, from wherever an earlier run has stopped.
     fn run(&self, args: &Args) -> Done<()> {
+        self.work(args, self.number, |job| self.attempt(job))
+    }
+
+    /// Does work until it is done, of which course `last` is the end.
+    fn work(&self, args: &Args, last: u32, work: impl Fn(&Job) -> Done<()>) -> Done<()> {
         let bus = Node::join(Options::of(args, "mover")?)?;
         let pace = Pace::of(args)?;
         let progress = Arc::new(Progress::new(pace.clone()));
@@ -163,6 +175,7 @@ impl Mover {
             pause: Duration::from_millis(args.number("pause", 5, 0, 3_600_000)?),
             pace: &pace,
             stuck: &stuck,
+            is_closed: false,
             is_over: AtomicBool::new(false),
             runs: Mutex::default(),
         };
@@ -170,7 +183,7 @@ impl Mover {
         stop::watch(|| ())?;
         let moved = thread::scope(|scope| {
             scope.spawn(|| progress.show());
-            let moved = endure(Some(&job), || self.attempt(&job));
+            let moved = endure(Some(&job), || work(&job));
             progress.finish();
             moved
         });
@@ -180,7 +193,7 @@ impl Mover {
         }
         moved?;
         let (keys, took) = (progress.moved(), progress.took().as_secs_f64());
-        let said = say(format!("course {}: moved {keys} keys in {took:.1} s", self.number));
+        let said = say(format!("course {last}: moved {keys} keys in {took:.1} s"));
         if let Err(names) = bus.settle(settle) {
             log::warn(format!("{}; run it again if they don't", unfollowed(&names)));
         }
@@ -189,19 +202,29 @@ impl Mover {
 
     /// All of it once, from wherever an earlier one has stopped.
     fn attempt(&self, job: &Job) -> Done<()> {
-        let mut entered = self.enter()?;
-        let runs = entered.partitions.iter().map(|it| (it.part, it.life.run.clone())).collect();
-        *job.runs.lock().unwrap_or_else(PoisonError::into_inner) = runs;
-        self.catch_up(job, &entered)?;
-        self.admit(&mut entered)?;
-        job.bus.tell_frames(std::slice::from_ref(&self.issue))?;
-        thread::sleep(NOTICE);
-        self.fence(&mut entered)?;
+        let entered = self.start(job)?;
+        self.stop_at("started");
+        self.refuse_closed(&entered.partitions, &entered.survey)?;
         drop(entered);
         self.sub_plans(job)?;
         job.bus.tell_all()?;
         let told = job.bus.wait_paid(patience::most());
         told.trying(|| "all keys have moved; start it again once the bus is up".to_string())
+    }
+
+    /// Begins the course everywhere, lets its routers in, and shuts out all others.
+    fn start(&self, job: &Job) -> Done<Entered> {
+        let mut entered = self.enter()?;
+        let runs = entered.partitions.iter().map(|it| (it.part, it.life.run.clone())).collect();
+        *job.runs.lock().unwrap_or_else(PoisonError::into_inner) = runs;
+        self.stop_at("begun");
+        self.catch_up(job, &entered)?;
+        self.admit(&mut entered)?;
+        self.stop_at("admitted");
+        job.bus.tell_frames(std::slice::from_ref(&self.issue))?;
+        thread::sleep(NOTICE);
+        self.fence(&mut entered)?;
+        Ok(entered)
     }
 
     /// All partitions, those of the old plan first. The first one decides between two movers that
@@ -327,6 +350,16 @@ fn endure(job: Option<&Job>, mut work: impl FnMut() -> Done<()>) -> Done<()> {
             job.progress.restart();
             job.is_over.store(false, Relaxed);
         }
+    }
+}
+
+/// Nothing, if all partitions have an address.
+fn need_addresses(servers: &BTreeMap<u32, Server>, parts: &BTreeSet<u32>) -> Done<()> {
+    match parts.iter().find(|part| !servers.contains_key(part)) {
+        None => Ok(()),
+        Some(part) => Err(Fault::new(format!(
+            "a plan names partition {part}, which has no address: --part {part}=HOST:PORT is missing"
+        ))),
     }
 }
 

@@ -27,6 +27,11 @@ pub fn show(args: &Args, bus: &Arc<Node>, progress: &Arc<Progress>, stuck: &Arc<
         let gauges = [
             ("expected_keys", "keys that this mover has found to move", progress.expected() as u64),
             ("stuck_keys", "keys that their destination does not take", stuck.count() as u64),
+            (
+                "course_closed",
+                "whether this mover ends its course, and gives nothing more in it",
+                progress.is_closed().into(),
+            ),
             ("rate_limit_keys", "keys that may move in a second; 0 is no limit", progress.rate()),
             ("uptime_seconds", "seconds since the program began", progress.took().as_secs()),
         ];

@@ -72,12 +72,20 @@ pub struct Beginning<'a> {
     /// The ranges of its plans.
     pub old: &'a str,
     pub new: &'a str,
-    /// Whether the old plan gives the partition no keys.
-    pub is_fresh: bool,
-    /// What others have seen of a fresh one that was there before: its generation rises above that.
-    pub seen: u64,
+    /// What the partition is then.
+    pub start: Start,
     /// All its moves, by rising key.
     pub moves: &'a [Move],
+}
+
+/// What a partition is as a course begins there.
+pub enum Start {
+    /// The course before has ended there at the old plan.
+    Known,
+    /// The old plan gives it no keys. What others have seen of it, if it was there before: its generation rises above that.
+    Fresh(u64),
+    /// The course before is closed, and the old plan says where the keys are. The generations of the other partitions.
+    Left(Vec<(u32, u64)>),
 }
 
 impl Partition {
@@ -99,7 +107,7 @@ impl Partition {
 
     /// Loads the functions that make it a partition.
     pub fn prepare(&mut self) -> Done<()> {
-        self.ask(&["FUNCTION", "LOAD", "REPLACE", GUARD]).map(drop)
+        self.ask(&["FUNCTION", "LOAD", "REPLACE", &faults::in_guard(GUARD)]).map(drop)
     }
 
     /// Whether the course may begin here; it changes nothing.
@@ -113,15 +121,25 @@ impl Partition {
     }
 
     fn call_begin(&mut self, function: &str, course: &Beginning) -> Done<()> {
-        let fresh = match (course.is_fresh, course.seen) {
-            (false, _) => "known".to_string(),
-            (true, 0) => "fresh".to_string(),
-            (true, seen) => format!("fresh:{seen}"),
+        let start = match &course.start {
+            Start::Known => "known".to_string(),
+            Start::Fresh(0) => "fresh".to_string(),
+            Start::Fresh(seen) => format!("fresh:{seen}"),
+            Start::Left(others) => {
+                let others = others.iter().map(|(part, generation)| format!(":{part}={generation}"));
+                format!("left:{}{}", self.part, others.collect::<String>())
+            }
         };
-        let head = ["FCALL", function, "0", &self.number, course.old, course.new, &fresh];
+        let head = ["FCALL", function, "0", &self.number, course.old, course.new, &start];
         let mut words: Vec<String> = head.into_iter().map(String::from).collect();
         words.extend(course.moves.iter().map(|it| self.line(it)));
         self.ask(&words).map(drop)
+    }
+
+    /// Gives nothing more in this course.
+    pub fn close(&mut self) -> Done<()> {
+        let number = self.number.clone();
+        self.ask(&["FCALL", "squall_close", "0", &number]).map(drop)
     }
 
     /// A move, as this partition sees it.
@@ -271,58 +289,6 @@ impl Partition {
     pub(super) fn try_ask<W: AsRef<[u8]>>(&mut self, words: &[W]) -> Done<Value> {
         self.patience.ask(&mut self.conn, words)
     }
-
-    /// Why a partition refused, in words for an operator.
-    pub fn explain(&self, error: &str) -> Fault {
-        let (part, number) = (self.part, &self.number);
-        let Some(said) = error.strip_prefix("SQUALL ") else {
-            if error.contains("Function not found") {
-                return Fault::new(format!(
-                    "partition {part} has functions of an earlier version: run the mover of its course first"
-                ));
-            }
-            return Fault::new(format!("partition {part}: {error}"));
-        };
-        let words: Vec<&str> = said.split(' ').collect();
-        let known = words.get(1).copied().unwrap_or("0");
-        if words[0] == "BACK" {
-            // The mover begins again, and sees where the keys are.
-            return Fault::lost(format!(
-                "partition {part}: another mover gives keys back to partition {known}"
-            ));
-        }
-        Fault::new(match words[0] {
-            "CLASH" => format!(
-                "partition {part}: course {number} has begun with other plans; this one is refused"
-            ),
-            "LATE" | "COURSE" => {
-                format!("partition {part}: course {known} has begun; course {number} is over")
-            }
-            "GAP" => format!(
-                "partition {part} is in course {known}: the next one has the number after it, and not {number}"
-            ),
-            "OTHER" => format!(
-                "partition {part}: course {known} ended at another plan than this one begins at"
-            ),
-            "RUNNING" => format!(
-                "partition {part}: course {known} is not over; run its mover to the end"
-            ),
-            "EMPTY" => format!(
-                "partition {part} has begun no course, and the old plan gives it keys: did it lose its data? \
-                 (--init begins course 1, --accept-loss {part} goes on without it)"
-            ),
-            "BEFORE" => format!(
-                "partition {part}: it or partition {known} was let in with less meanwhile; start this mover again"
-            ),
-            "EARLY" => format!("partition {part}: course {number} has not begun everywhere; start its mover first"),
-            "FULL" => format!(
-                "partition {part}: {known} keys were pulled from there ahead of the mover, and it keeps no more; \
-                 pull others once the mover is past some of them"
-            ),
-            "CHANGED" => format!("partition {part}: another mover has changed it; start this mover again"),
-            _ => format!("partition {part}: {said}"),
-        })
-    }
 }
 
 /// The first refusal among answers.
@@ -356,7 +322,7 @@ mod tests {
     fn refusals_that_pass_end_no_step() {
         let (mut mover, mut other) = (partition(1), partition(1));
         mover.prepare().unwrap();
-        let course = Beginning { old: "[]", new: "[]", is_fresh: true, seen: 0, moves: &[] };
+        let course = Beginning { old: "[]", new: "[]", start: Start::Fresh(0), moves: &[] };
         mover.begin(&course).unwrap();
         other.ask(&["CONFIG", "SET", "maxmemory", "1"]).unwrap();
         let has_room = AtomicBool::new(false);

@@ -15,6 +15,7 @@ pub struct Progress {
     moved: AtomicUsize,
     expected: AtomicUsize,
     steps: AtomicUsize,
+    is_closed: AtomicBool,
     is_over: AtomicBool,
 }
 
@@ -30,6 +31,7 @@ impl Progress {
             moved: AtomicUsize::new(0),
             expected: AtomicUsize::new(0),
             steps: AtomicUsize::new(0),
+            is_closed: AtomicBool::new(false),
             is_over: AtomicBool::new(false),
         }
     }
@@ -67,6 +69,16 @@ impl Progress {
     /// How many are to move, as far as is known.
     pub fn expected(&self) -> usize {
         self.expected.load(Relaxed)
+    }
+
+    /// The course is closed, and what was given in it comes to its end; or no longer.
+    pub fn set_closed(&self, is_closed: bool) {
+        self.is_closed.store(is_closed, Relaxed);
+    }
+
+    /// Whether it is.
+    pub fn is_closed(&self) -> bool {
+        self.is_closed.load(Relaxed)
     }
 
     /// How many may move in a second; 0 is no limit.
@@ -117,6 +129,9 @@ impl Progress {
             0 => String::new(),
             limit => format!(" of at most {limit}/s"),
         };
+        if self.is_closed() {
+            return format!("the course is closed; {moved} keys, {rate:.0}/s{limit}");
+        }
         format!("{moved} of {all} keys, {rate:.0}/s{limit}, {left:.0} s left")
     }
 }
@@ -135,5 +150,7 @@ mod tests {
         // Keys that came later are moved too.
         progress.forgot(6);
         assert!(progress.bar().contains("11 of 10 keys"));
+        progress.set_closed(true);
+        assert!(progress.bar().contains("the course is closed; 11 keys"));
     }
 }

@@ -38,6 +38,7 @@ impl Mover {
             pause: Duration::ZERO,
             pace: &pace,
             stuck: &stuck,
+            is_closed: false,
             is_over: AtomicBool::new(false),
             runs: Mutex::default(),
         };
@@ -100,6 +101,7 @@ impl Mover {
                 return Err(it.explain("SQUALL EARLY"));
             }
         }
+        self.refuse_closed(&partitions, &survey)?;
         // The course has begun at each of them, with these plans or others.
         partitions.iter_mut().try_for_each(|it| it.may_begin(&self.beginning(it.part, &survey)))?;
         ranks.iter().try_for_each(|(rank, it)| self.is_open(*rank, it, &survey))

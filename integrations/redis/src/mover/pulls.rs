@@ -18,6 +18,8 @@ pub enum Ahead {
     Forgotten,
     /// Nothing is: of the keys that were named the one at this place is too large. Its number of bytes.
     TooLarge(usize, u64),
+    /// Nothing is: the course is closed.
+    Closed,
 }
 
 /// The outcome for a rank that is to go back to its source.
@@ -59,6 +61,7 @@ impl Partition {
             Ok((_, generation)) => Ok(Ahead::Given(generation)),
             Err(error) => match read_large(&error) {
                 Some((at, size)) if at < keys.len() => Ok(Ahead::TooLarge(at, size)),
+                None if error.starts_with("SQUALL CLOSED ") => Ok(Ahead::Closed),
                 _ => Err(self.explain(&error)),
             },
         }

@@ -21,6 +21,8 @@ pub struct State {
     pub seen: BTreeMap<u32, u64>,
     /// The moves of its course, by rising key.
     pub moves: Vec<Stand>,
+    /// Whether it gives nothing more in that course.
+    pub is_closed: bool,
 }
 
 /// How far a partition is with a move.
@@ -83,7 +85,8 @@ impl State {
     }
 
     fn read(said: Value) -> Option<State> {
-        let words = said.list();
+        let mut words = said.list();
+        let is_closed = words.len() > 6 && words.pop()?.text() == "closed";
         let [number, generation, fence, run, seen, moves] = <[Value; 6]>::try_from(words).ok()?;
         let seen: Vec<u64> =
             seen.list().into_iter().map(|it| it.text().parse().ok()).collect::<Option<_>>()?;
@@ -95,6 +98,7 @@ impl State {
             run,
             seen: seen.chunks_exact(2).map(|pair| (pair[0] as u32, pair[1])).collect(),
             moves: moves.list().into_iter().map(|line| Stand::read(&line.text())).collect::<Option<_>>()?,
+            is_closed,
         })
     }
 }
@@ -174,9 +178,12 @@ mod tests {
         let bulk = |text: &str| Value::Bulk(text.into());
         let line = "0000000200000000 0000000300000000 out 3 0000000200000005 0000000200000000 7";
         let lists = [Value::List(vec![bulk("3"), bulk("9")]), Value::List(vec![bulk(line)])];
-        let said = [bulk("2"), bulk("5"), bulk(""), bulk("abc")].into_iter().chain(lists);
-        let state = State::read(Value::List(said.collect())).unwrap();
-        assert_eq!((state.number, state.generation, state.fence), (2, 5, 0));
+        let mut said = [bulk("2"), bulk("5"), bulk(""), bulk("abc")].to_vec();
+        said.extend(lists);
+        let state = State::read(Value::List(said.clone())).unwrap();
+        assert_eq!((state.number, state.generation, state.fence, state.is_closed), (2, 5, 0, false));
+        said.push(bulk("closed"));
+        assert!(State::read(Value::List(said)).unwrap().is_closed);
         assert_eq!((state.run.as_deref(), state.seen.get(&3)), (Some("abc"), Some(&9)));
         let stand = state.stand(2, Rank::new(2, 0)).unwrap();
         assert_eq!((stand.role, stand.peer, stand.edge, stand.gone), (Role::Out, 3, Rank::new(2, 5), 7));

@@ -81,6 +81,12 @@ impl Partition {
         self.read_back(said)
     }
 
+    /// Whether rows of the move were put from that edge on.
+    pub fn has_arrived(&mut self, it: &Move, edge: Rank) -> Done<bool> {
+        let (first, last) = (format!("[{}", hex(edge)), format!("({}", hex(it.hi)));
+        Ok(self.ask(&["ZLEXCOUNT", "squall:arrived", &first, &last])? != Value::Int(0))
+    }
+
     /// The generation of the source up to which nothing is loaded any more, if the partition has done `give_back`.
     pub fn gives_back(&mut self, it: &Move) -> Done<Option<u64>> {
         Ok(self.ask(&["HGET", "squall:back", &hex(it.lo)])?.text().parse().ok())

@@ -196,7 +196,7 @@ mod tests {
 
     fn state(generation: u64, stand: Stand) -> State {
         let run = Some("first".to_string());
-        State { number: 2, generation, fence: 2, run, seen: BTreeMap::new(), moves: vec![stand] }
+        State { number: 2, generation, fence: 2, run, moves: vec![stand], ..State::default() }
     }
 
     /// Partition 1 has given to 3 below 150, and has forgotten below 140; 3 has loaded below 140.
