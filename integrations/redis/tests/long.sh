@@ -20,7 +20,8 @@ one_fault() {
     5) redis-cli -p "$bus" flushall ;;
     6)
       stop "${servers[which]}"
-      run_redis "${servers[which]}" --appendonly yes --appendfsync everysec
+      # shellcheck disable=SC2086
+      run_redis "${servers[which]}" $redis_words
       ;;
     7)
       stop "$bus"

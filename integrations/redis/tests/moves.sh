@@ -4,7 +4,8 @@
 
 test_guard() {
   run=$work/guard
-  start_redis && SQUALL_REDIS=127.0.0.1:$port cargo test "${cargo[@]}" --features faults --test guard --test chunk --test pull --lib \
+  start_redis --enable-debug-command yes && SQUALL_REDIS=127.0.0.1:$port cargo test "${cargo[@]}" --features faults \
+    --test guard --test chunk --test pull --test turn --lib \
     -- --ignored --test-threads 1
 }
 
