@@ -95,6 +95,10 @@ impl Partition {
         let (number, patience) = (number.to_string(), Patience::default());
         let mut partition = Partition { part, conn, life: Life::default(), number, patience };
         let info = partition.ask(&["INFO", "server", "persistence"])?.text();
+        // Meanwhile a server says that it writes no log.
+        if Life::is_loading(&info) {
+            return Err(Fault::lost(format!("partition {part} is loading its data")));
+        }
         let other = || Fault::new(format!("partition {part}: INFO of another form"));
         partition.life = Life::read(&info).ok_or_else(other)?;
         Ok(partition)

@@ -148,6 +148,11 @@ fn read_pulled(word: &str) -> Option<(Rank, Pulled)> {
 }
 
 impl Life {
+    /// Whether a server that says this of itself is loading its data.
+    pub fn is_loading(info: &str) -> bool {
+        info.lines().any(|line| line.trim() == "loading:1")
+    }
+
     /// What a server says of itself.
     pub fn read(info: &str) -> Option<Life> {
         let field = |name: &str| info.lines().find_map(|line| line.strip_prefix(name)).map(str::trim);
@@ -204,5 +209,6 @@ mod tests {
         let life = Life::read("# Server\r\nrun_id:ab12\r\n# Persistence\r\naof_enabled:1\r\n").unwrap();
         assert_eq!((life.run.as_str(), life.has_log), ("ab12", true));
         assert!(Life::read("run_id:ab12").is_none());
+        assert!(Life::is_loading("loading:1\r\naof_enabled:0\r\n") && !Life::is_loading("loading:0\r\n"));
     }
 }
