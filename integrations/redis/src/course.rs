@@ -4,7 +4,7 @@ use crate::args::Args;
 use crate::fault::{Done, Fault, Trying};
 use crate::keymap::hex;
 pub use squall::Move;
-use squall::{Course, Error, Leg, PlanFault, Rank, Span};
+use squall::{Course, Error, Leg, Rank, Span};
 use std::collections::BTreeSet;
 use std::ops::Range;
 
@@ -59,42 +59,15 @@ impl Plan {
 }
 
 /// The plan of where the keys are in a course: those of the spans at their partition of the new plan, and all others at that of
-/// the old one. The spans may overlap.
+/// the old one. The spans have keys, and may overlap.
 ///
 /// # Errors
 ///
 /// It would have more ranges than a plan may have.
 pub fn plan_left(number: u32, old: &Plan, new: &Plan, loaded: &[Span]) -> Done<Plan> {
-    let course = Course::open(number, &old.text, &new.text)?;
-    match left(&course, loaded) {
-        Err(Error::OldPlan(PlanFault::TooMany)) => {
-            Err(Fault::new("the plan of where the keys are has more than 4096 ranges"))
-        }
+    match Course::open(number, &old.text, &new.text)?.left(loaded) {
+        Err(Error::Limit) => Err(Fault::new("the plan of where the keys are has more than 4096 ranges")),
         text => Plan::read(text?.into_bytes()),
-    }
-}
-
-/// The text of that plan.
-// TEMPORARY: `Course::left` of the library makes it.
-fn left(course: &Course, loaded: &[Span]) -> Result<String, Error> {
-    let (old, new) = (course.old_plan(), course.new_plan());
-    let mut bounds: BTreeSet<Rank> = old.iter().chain(&new).map(|leg| leg.hi).collect();
-    bounds.extend(loaded.iter().flat_map(|it| [it.lo, it.hi]).filter(|&it| it > Rank(0)));
-    let mut ends: Vec<(Rank, u32)> = Vec::new();
-    let mut lo = Rank(0);
-    for hi in bounds {
-        let is_loaded = loaded.iter().any(|it| it.lo <= lo && lo < it.hi);
-        let legs = if is_loaded { &new } else { &old };
-        let part = legs[legs.partition_point(|leg| leg.hi <= lo)].part;
-        match ends.last_mut() {
-            Some(last) if last.1 == part => last.0 = hi,
-            _ => ends.push((hi, part)),
-        }
-        lo = hi;
-    }
-    match ends.len() {
-        0..=4096 => Ok(text(&ends)),
-        _ => Err(Error::OldPlan(PlanFault::TooMany)),
     }
 }
 
