@@ -57,10 +57,10 @@ move_through() {
   done
 }
 
-# Ten million commands, or COMMANDS, while all of that happens and courses go to and fro without a pause. A server that
-# is killed loses no write, since the system has it by then.
+# Ten million commands, or COMMANDS, while all of that happens and courses go to and fro without a pause. A server writes
+# before it answers. With everysec it answers first if a flush is under way, so one that is killed loses writes.
 long_all_faults() {
-  local redis_words="--appendonly yes --appendfsync everysec" patience=20000 plans=(old new) number=1 id chaos
+  local redis_words="--appendonly yes --appendfsync always" patience=20000 plans=(old new) number=1 id chaos
   deploy || return
   touch "$run/moving" "$run/faults"
   launch "$run" check "$bin/squall-redis-check" --proxy "127.0.0.1:${proxies[0]}" --proxy "127.0.0.1:${proxies[1]}" \
