@@ -3,7 +3,7 @@
 Some promises speak of an answer at a moment and at every later one. Each world is tested with each answer that was
 given by then, so later worlds test those of earlier ones again.
 
-Where a partition may die, they are promised of those that live. Until a dead one is buried, its keys have no carrier.
+If a partition may die, they are promised of those that live. Until a dead one is buried, its keys have no carrier.
 """
 from collections.abc import Iterator
 
