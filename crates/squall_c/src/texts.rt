@@ -122,9 +122,9 @@ pub(crate) fn new_text(slot: &CourseSlot, room: &mut [u8]) -> usize
     }
 }
 
-/// Writes the text of the plan of where the course leaves the keys, if those of the spans are loaded, into
-/// the room, if that holds it, and answers how many bytes it has. 0 if a span has no key or ends above all
-/// keys, or if the plan would have too many ranges; `NO_COUNT` if an allocation fails.
+/// Writes the text of the plan of where the course leaves the keys into the room, if that holds it. The
+/// keys of the spans are loaded. Answers how many bytes the text has. 0 if a span has no key or ends above
+/// all keys, or if the plan would have too many ranges. `NO_COUNT` if an allocation fails.
 fn put_left(alloc: Global, course: &Course, loaded: &[CSpan], room: &mut [u8]) -> usize
     ensures { PutsLeft course.now loaded.now room.old room.new result }
 {
