@@ -10,10 +10,10 @@ use clap::{Arg, ArgAction, Command};
 use std::alloc::{AllocError, Global};
 
 const REPORTS: &str = "Reports:
-  loaded N S P LO HI  partition P has loaded [LO,HI) in sub-plan S of reconfiguration N
-  done N S P          partition P has all that sub-plan S of reconfiguration N brings it
-  opened N S          sub-plan S of reconfiguration N is opened, and all those before it
-  issued N OLD NEW    reconfiguration N leads from the plan of file OLD to that of file NEW
+  loaded N S P LO HI  partition P has loaded [LO,HI) in sub-plan S of course N
+  done N S P          partition P has all that sub-plan S of course N brings it
+  opened N S          sub-plan S of course N is opened, and all those before it
+  issued N OLD NEW    course N leads from the plan of file OLD to that of file NEW
 
 Example:
   squall report done 1 2 4 >done.bin";

@@ -22,17 +22,22 @@ const VERSION: &str = "-";
 const ABOUT: &str =
     "Says where each key is while a database moves from one partition plan to another.";
 
-const AFTER_HELP: &str =
-    "Without a command the scenario on standard input is run. A file named - is standard input.
+const AFTER_HELP: &str = "Plans:        check, course
+A move:       status, watch, picture, route, legs
+Board files:  report, board, merge, beyond, digest, repair
+Trials:       run, race
+
+A board file has frames, which say what was reported: partitions, proxies and squall report write
+them. A file named - is standard input. Without a command the scenario on standard input is run.
 
 Example:
   squall check new.json
   squall course old.json new.json
-  squall run scenario.txt
-  squall race race.txt
+  squall report loaded 1 0 3 2:0 3:0 >board.bin
   squall status old.json new.json board.bin
+  squall run scenario.txt
 
-squall help COMMAND shows the help of a command: squall help run the lines of a scenario, and
+squall help COMMAND shows the help of a command: squall help run has the lines of a scenario, and
 squall help race those of a race.";
 
 const CHECK: &str = "Example:
@@ -46,16 +51,33 @@ const COURSE: &str = "Example:
 const SCENARIO: &str = "Lines of a scenario, one question or report each:
   old JSON            the old plan, first: {\"plan\":[{\"part\":1,\"from\":[0,0],\"to\":\"end\"}]}
   new JSON            the new plan, right after the old one
-  loaded N S P LO HI  partition P has loaded [LO,HI) in sub-plan S of reconfiguration N
-  done N S P          partition P has all that sub-plan S of reconfiguration N brings it
-  opened N S          sub-plan S of reconfiguration N is opened, and all those before it
-  issued N JSON       reconfiguration N leads from the new plan to this one
+  loaded N S P LO HI  partition P has loaded [LO,HI) in sub-plan S of course N
+  done N S P          partition P has all that sub-plan S of course N brings it
+  opened N S          sub-plan S of course N is opened, and all those before it
+  issued N JSON       course N leads from the new plan to this one
   route K             asks which partition has key K
   legs LO HI          asks which partitions have the keys of [LO,HI)
   board               asks what was reported
   hear HEX            hears the next bytes of a stream of frames, and takes their reports
   frame               asks for the frame of the board
-  # REMARK            is skipped, as is a line without words";
+  world R             begins a world with R routers. Each further line is an event
+  # REMARK            is skipped, as is a line without words
+
+Events of a world. NODE is l, the leader; p3, partition 3; or r0, router 0:
+  open                the leader opens the next sub-plan
+  begin JSON          the leader begins the next course, to this plan
+  begin-from OLD NEW  the leader begins the next course before the last one is over: OLD is the
+                      plan that says where the keys are
+  close P             partition P gives no more in the newest course that it knows
+  give P MAX          partition P sends on the first keys that are to go, at most MAX
+  giveat P K          partition P sends on key K
+  load I              chunk I comes to its destination
+  finish P S          partition P reports that it has all keys of sub-plan S
+  send NODE           the node sends all that it knows
+  send NODE REPORT    the node sends one report, in the words of loaded, done or opened
+  deliver I NODE      message I comes to the node
+  route R K           asks to which partition router R sends key K
+  serve P K [N]       asks what partition P replies for key K after move N";
 
 const RACE: &str = "Lines of a race, which is run once all of them are read:
   old JSON    the old plan, first: {\"plan\":[{\"part\":1,\"from\":[0,0],\"to\":\"end\"}]}
