@@ -42,7 +42,7 @@ abbrev pub key_before : (ℕ → ℕ) → ℕ → Result (Option ℕ) Reason →
 key_before to_part number (Ok key) rest = after (text_of_route to_part key ∷ []) rest
 key_before to_part number (Err reason) rest = last_word (bad_text number reason)
 
--- The answers to lines of keys, if so many lines came before them: for each key the partition to ask. A line may end in a CR.
+-- The answers to lines of keys, if so many lines came before them. Each key is answered with the partition to ask. A line may end in a CR.
 abbrev pub keys_script : (ℕ → ℕ) → ℕ → List (List ℕ) → Script
 keys_script to_part before [] = silence
 keys_script to_part before (line ∷ lines) = key_before to_part (one_more before) (key_on_line (without_cr line)) (keys_script to_part (one_more before) lines)

@@ -4,7 +4,7 @@
 //!
 //! What the program tells on standard error, and its statuses, are here too.
 //!
-//! Its tests are in `crates/squall_test_lines/src/ask.rt`.
+//! Its tests are the cases of `cases/` and `tools/faults/failing-system`.
 #![tactic(auto)]
 
 mod answer;

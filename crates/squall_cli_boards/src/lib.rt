@@ -2,7 +2,7 @@
 //!
 //! A board file is the frames of a board, one after the other. Several files are joined.
 //!
-//! Its tests are in `crates/squall_test_lines/src/boards.rt`.
+//! Its tests are the cases of `cases/`.
 #![tactic(auto)]
 
 mod answer;

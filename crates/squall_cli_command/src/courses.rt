@@ -1,4 +1,4 @@
-//! The commands about the newest reconfiguration, with their help, as `clap` reads them.
+//! The commands about the newest course, with their help, as `clap` reads them.
 
 ghost use Rattle.std.specs.Prelude.{◌≡◌, IfOk, false};
 ghost use Rattle.clap.specs.Words.{app_of, shape_of, rule_of};

@@ -1,7 +1,7 @@
 //! The words of the command line: what they ask for, and what is shown if they ask for help or
 //! for nothing that there is.
 //!
-//! Its tests are in `crates/squall_test_lines/src/command.rt`.
+//! Its tests are the cases of `cases/`.
 #![tactic(auto)]
 
 mod boards;

@@ -1,6 +1,6 @@
 //! Events of a world as lines, and their answers as texts.
 //!
-//! Its tests are in `crates/squall_test_lines/src/event_text.rt`.
+//! Its tests are the cases of `cases/run`.
 #![tactic(auto)]
 
 mod answers;

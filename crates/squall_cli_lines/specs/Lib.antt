@@ -4,6 +4,5 @@ pub mod Faults
 pub mod Heeding
 pub mod Running
 pub mod Words
-pub mod Sample
 pub use Rattle.squall_cli_device.specs.Counts
 pub use Rattle.squall_cli_device.specs.States

@@ -4,7 +4,8 @@
 //! line that a block cuts is copied. The answers to a block are written before the next block is
 //! read, so a reader who waits for an answer gets it.
 //!
-//! Its tests are in `crates/squall_test_lines/src/lines.rt`.
+//! What it does with lines, and with devices that fail, the cases of `cases/run` and
+//! `tools/faults/failing-system` show.
 #![tactic(auto)]
 
 ghost use Rattle.std.specs.Prelude.{◌≡◌, ◌⊎◌, ℕ, List, Some, Ok};

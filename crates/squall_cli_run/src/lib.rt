@@ -1,7 +1,7 @@
 //! What the program does: it runs scenarios and races, checks plans, shows courses, and answers what is
 //! asked of board files.
 //!
-//! Its tests are in `crates/squall_test_runs/src/run.rt`.
+//! Its tests are the cases of `cases/` and `tools/faults/failing-system`.
 #![tactic(auto)]
 
 ghost use Rattle.std.specs.Prelude.{◌≡◌, ◌⊎◌, ℕ, List, Ok};

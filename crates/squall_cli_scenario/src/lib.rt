@@ -1,7 +1,7 @@
 //! Scenarios: lines that set up plans, bring reports, let events happen in a world, and ask, and what
 //! answers them.
 //!
-//! Its tests are in `crates/squall_test_runs/src/scenario.rt`.
+//! Its tests are the cases of `cases/run`.
 #![tactic(auto)]
 
 mod command;

@@ -1,8 +1,8 @@
-//! Watches how far a reconfiguration comes: takes the frames of boards from an input as they come,
+//! Watches how far a course comes: takes the frames of boards from an input as they come,
 //! and writes the lines of the status that change, or its JSON object. On a terminal it also draws a
 //! bar.
 //!
-//! Its tests are in `crates/squall_test_lines/src/watch.rt` and in the folder beside it.
+//! Its tests are the cases of `cases/watch`, `tools/faults/terminal` and `tools/faults/failing-system`.
 #![tactic(auto)]
 
 mod bar;

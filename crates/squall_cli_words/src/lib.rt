@@ -1,7 +1,7 @@
 //! The text of scenarios and races: the words of their lines, and reports as lines. It also says
 //! why a line is bad, and how a board, a route and legs are shown.
 //!
-//! Its tests are in `crates/squall_test_lines/src/language.rt`.
+//! Its tests are the cases of `cases/run` and `cases/race`.
 #![tactic(auto)]
 
 mod board_text;

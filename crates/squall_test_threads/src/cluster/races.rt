@@ -1,27 +1,16 @@
-//! Races: what they give, whatever the schedule. Other numbers of senders and readers the cases of the built program
-//! show, and that a refused allocation loses nothing a race by its lines.
+//! What races are run with, and what they have to give, whatever the schedule. Numbers of senders and readers, and
+//! limits, are shown by the cases of the built program.
 
 use super::{course, done};
 use squall_board::Board;
-use squall_cluster::{Actor, Gate, RaceFault, Raced, Start, Tasks, race};
+use squall_cluster::{Gate, RaceFault, Raced, Start, Tasks, race};
 use squall_course::Course;
 use squall_key::{Bound, Key};
 use squall_report::Report;
 use squall_span::Span;
 use std::alloc::Global;
-use std::process::Abort;
 use std::sync::{Arc, Wait};
-use std::test::Fail;
 use std::thread::Threads;
-
-/// A gate at which nobody waits.
-struct Open;
-
-impl Gate for Open {
-    fn before(&self, _actor: Actor, _call: u64) {}
-
-    fn after(&self, _actor: Actor, _call: u64) {}
-}
 
 /// A report: of the load at partition 3 of the keys from one bound to another, or of the completion.
 #[derive(Clone, Copy)]
@@ -185,100 +174,4 @@ impl Setting {
 /// The setting of the two lists. None if an allocation fails.
 pub(super) fn two_list_setting(alloc: Global) -> Option<Setting> {
     told_setting(alloc, &TWO_LISTS, &[LOAD, Told::Done])
-}
-
-/// Whether a race with that many readers ends as it has to.
-fn races_well<R: Threads + Wait + Sync>(
-    rt: &R,
-    alloc: Global,
-    setting: &Setting,
-    readers: usize,
-    capacity: usize,
-) -> Option<bool> {
-    let keys = three_keys()?;
-    let raced = setting
-        .race(rt, alloc, &keys, readers, capacity, &Open)
-        .ok()?;
-    Some(setting.ended_well(&raced, &keys, readers))
-}
-
-/// How many readers there are, and how many letters the inbox holds.
-type Numbers = (usize, usize);
-
-/// Races of the two lists with each of these numbers end as they have to.
-fn all_race_well<R: Threads + Wait + Sync + Abort>(
-    rt: &R,
-    alloc: Global,
-    numbers: &[Numbers],
-) -> Option<()> {
-    let setting = two_list_setting(alloc)?;
-    for (readers, capacity) in numbers {
-        let well = races_well(rt, alloc, &setting, *readers, *capacity);
-        assert!(rt; well == Some(true), "{readers}");
-    }
-    Some(())
-}
-
-#[test]
-fn no_reader_and_many(rt: HostRuntime) -> Result<(), Fail> {
-    all_race_well(&rt, rt.alloc(), &[(0, 2), (64, 2)]).ok_or("a setting")?;
-    Ok(())
-}
-
-/// Adds that many lists, each with the load of one key.
-fn push_many(alloc: Global, lists: &mut Vec<Vec<Report>>, count: u32) -> Option<()> {
-    for at in 0..count {
-        let told = [Told::Load((2, at), (2, at.checked_add(1)?))];
-        push_list(lists, list_of(alloc, &told))?;
-    }
-    Some(())
-}
-
-/// That many lists, each with the load of one key.
-fn many_lists(alloc: Global, count: u32) -> Option<Vec<Vec<Report>>> {
-    let mut lists = Vec::new(alloc);
-    push_many(alloc, &mut lists, count)?;
-    Some(lists)
-}
-
-/// The setting of that many lists, and the board of 64. None if an allocation fails.
-fn many_list_setting(alloc: Global, count: u32) -> Option<Setting> {
-    let lists = many_lists(alloc, count)?;
-    setting_with(alloc, lists, &[Told::Load((2, 0), (2, 64))])
-}
-
-/// The name of the limit that a race in the setting does not keep.
-fn limit_of<R: Threads + Wait + Sync>(
-    rt: &R,
-    alloc: Global,
-    setting: &Setting,
-    readers: usize,
-    capacity: usize,
-) -> &'static str {
-    match setting.race(rt, alloc, &[], readers, capacity, &Open) {
-        Ok(_raced) => "",
-        Err(RaceFault::BadSenders) => "senders",
-        Err(RaceFault::BadReaders) => "readers",
-        Err(RaceFault::BadCapacity) => "capacity",
-        Err(_) => "another",
-    }
-}
-
-/// Numbers of lists, readers and places in the inbox, and which of them is bad.
-const LIMITS: [(u32, usize, usize, &str); 5] = [
-    (0, 65, 0, "senders"),
-    (65, 1, 1, "senders"),
-    (64, 65, 0, "readers"),
-    (64, 64, 0, "capacity"),
-    (64, 1, 65537, "capacity"),
-];
-
-#[test]
-fn limits(rt: HostRuntime) -> Result<(), Fail> {
-    for (count, readers, capacity, wanted) in LIMITS {
-        let setting = many_list_setting(rt.alloc(), count).ok_or("a setting")?;
-        let limit = limit_of(&rt, rt.alloc(), &setting, readers, capacity);
-        assert!(rt; limit == wanted, "{wanted}");
-    }
-    Ok(())
 }
