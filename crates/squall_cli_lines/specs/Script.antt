@@ -1,5 +1,5 @@
 -- What a machine answers to lines, and what of it a run writes.
-use Rattle.std.specs.Prelude.{◌≡◌, ℕ, ◌≤◌, List, [], ◌∷◌, ◌++◌, length, take, Bool, true, false, Result, Ok, Err}
+use Rattle.std.specs.Prelude.{◌≡◌, ℕ, ◌≤◌, ◌^◌, List, [], ◌∷◌, ◌++◌, length, take, Bool, true, false, Result, Ok, Err}
 use Rattle.std.specs.List.{concat}
 use Rattle.squall_cli_lines.specs.declared.Flow.{Flow}
 use Rattle.squall_cli_lines.specs.declared.Flow.TheVariants.{On, End}
@@ -9,9 +9,9 @@ use Rattle.squall_cli_lines.specs.declared.RunFault.{RunFault}
 use Rattle.squall_cli_lines.specs.declared.RunFault.TheVariants.{Read, Write, NoMemory}
 use Rattle.squall_cli_lines.specs.Lines.{lines_of, whole_lines}
 
--- how many reads are made of one input at most
+-- how many reads are made of one input at most: so many that no input that is of use has them
 abbrev pub read_limit : ℕ
-read_limit = 16777216
+read_limit = 2 ^ 60
 
 -- how many bytes one read gives at most
 abbrev pub block_size : ℕ

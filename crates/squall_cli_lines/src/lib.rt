@@ -93,8 +93,9 @@ impl From<AllocError> for RunFault {
 /// the next line is answered.
 pub const BLOCK_SIZE: usize = 65536;
 
-/// How many reads one run makes at most, so that it ends whatever the source does.
-pub const MOST_READS: u32 = 16777216;
+/// How many reads one run makes at most, so that it ends whatever the source does. At a billion reads
+/// a second they take 36 years, so no source that answers gets there.
+pub const MOST_READS: u64 = 1 << 60;
 
 /// How many bytes a line has at most, without its line end.
 pub const LONGEST_LINE: usize = 1048576;
