@@ -21,6 +21,8 @@ class Message(NamedTuple):
     frame: bytes
     #: Where a repair has to go, if the frame is a digest.
     reply: Optional[str] = None
+    #: Whether the frame is of a repair, which answers a digest of this node.
+    mends: bool = False
 
 
 class Bus(ABC):

@@ -73,7 +73,7 @@ class NatsBus(Bus):
             reply = words[2] if len(words) == 4 else None
             frame = self._opened(words[0], reply, op.payload)
             if frame is not None:
-                heard.append(Message(frame, reply))
+                heard.append(Message(frame, reply, words[0] == self._inbox))
         return heard
 
     def _opened(self, place: str, reply: Optional[str], data: bytes) -> Optional[bytes]:

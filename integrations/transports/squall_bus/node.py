@@ -2,6 +2,7 @@
 
 from __future__ import annotations
 
+import random
 import sys
 import time
 from functools import partial
@@ -14,6 +15,45 @@ from .pieces import is_digest
 
 #: How long a node waits before it connects again.
 AGAIN = 0.2
+#: The share of its pace after which a node shows its digest once it has seen a gap, and how much
+#: longer it waits after each further digest.
+QUICK, MORE = 1 / 16, 1.25
+
+
+class Rhythm:
+    """When a node shows its digest: each `pace` seconds, and more often while it sees gaps.
+
+    A gap is that nodes know different things. It counts if the node has learnt something since the
+    last gap. If it has not, others have nothing for it, or the bus brings it nothing.
+    """
+
+    def __init__(self, pace: float) -> None:
+        self.pace = self._wait = pace
+        self._next = float("-inf")
+        self._gap_at: Optional[bytes] = None
+
+    def is_due(self) -> bool:
+        """Whether it is time. The next time is then set."""
+        now = time.monotonic()
+        if now < self._next:
+            return False
+        self._next = now + self._wait
+        self._wait = min(MORE * self._wait, self.pace)
+        return True
+
+    def reset(self) -> None:
+        """It is time now."""
+        self._next = float("-inf")
+
+    def see_gap(self, digest: bytes) -> None:
+        """A gap was seen by the node of this digest.
+
+        Nodes wait for times of their own, so that not all show their digests at once.
+        """
+        if digest != self._gap_at:
+            self._gap_at, self._wait = digest, QUICK * self.pace
+            soon = time.monotonic() + random.uniform(0.0, self._wait)
+            self._next = min(self._next, soon)
 
 
 class Node:
@@ -36,8 +76,8 @@ class Node:
         self.repairs = 0
         #: When a digest was heard last that is this node's own, and one that differs.
         self.equal = self.differed = float("-inf")
-        self._pace = pace
-        self._next = float("-inf")
+        self._rhythm = Rhythm(pace)
+        self._is_gap = False
         self._said: Optional[str] = None
 
     def tell(self, frame: bytes) -> None:
@@ -68,7 +108,7 @@ class Node:
         began = time.monotonic()
         self.equal, self.differed = float("-inf"), began
         while self.bus.loses:
-            self.turn(self._pace / 4)
+            self.turn(self._rhythm.pace / 4)
             now = time.monotonic()
             if self.equal > began and now - self.differed >= quiet:
                 return True
@@ -83,20 +123,22 @@ class Node:
             act()
         except BusError as error:
             self.bus.close()
-            self._next = float("-inf")
+            self._rhythm.reset()
             self._say(str(error))
             return False
         self._said = None
         return True
 
     def _hear(self, seconds: float) -> None:
-        if self.bus.loses and time.monotonic() >= self._next:
-            self._next = time.monotonic() + self._pace
+        if self.bus.loses and self._rhythm.is_due():
             digest = self._digest()
             if digest is not None:
                 self._fitting(partial(self.bus.ask, digest))
+        self._is_gap = False
         for message in self.bus.hear(seconds):
             self._take(message)
+        if self._is_gap:
+            self._rhythm.see_gap(self._digest() or b"")
 
     def _take(self, message: Message) -> None:
         """Handles a message. Bytes that are no frame are counted and ignored."""
@@ -109,6 +151,7 @@ class Node:
             self._repair(message)
         else:
             self.taken += 1
+            self._is_gap = self._is_gap or message.mends
 
     def _repair(self, message: Message) -> None:
         """Answers the digest that was heard."""
@@ -116,6 +159,7 @@ class Node:
             self.equal = time.monotonic()
             return
         self.differed = time.monotonic()
+        self._is_gap = True
         reply = message.reply
         if reply is not None:
             for frame in self.router.repair():

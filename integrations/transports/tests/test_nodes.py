@@ -5,7 +5,8 @@ from __future__ import annotations
 import unittest
 from contextlib import redirect_stderr
 from io import StringIO
-from typing import List
+from typing import List, Tuple
+from unittest.mock import patch
 
 import squall
 from squall import Router
@@ -57,6 +58,29 @@ class Nodes(unittest.TestCase):
             bus.comes = [Message(peer.digest(), "x"), Message(peer.digest())]
             self.assertFalse(node.turn(0.0))
             self.assertEqual((bus.answered, len(bus.asked)), (node.router.board(), 1))
+
+    def test_a_gap_brings_a_digest_soon(self) -> None:
+        bus = Said()
+        node = Node(bus, ANY, 1000.0)
+        with Router(1, ANY, ANY) as peer, patch("random.uniform", return_value=0.0):
+            node.turn(0.0)
+            peer.done(2, 0, 3)
+            digest, repair = Message(peer.digest(), "x"), peer.board()[0]
+            turns: List[Tuple[List[Message], int]] = [
+                ([digest], 1),
+                ([], 2),
+                # Nothing was learnt since, so the usual pace is enough.
+                ([digest], 2),
+                ([], 2),
+                ([Message(repair, mends=True)], 2),
+                ([], 3),
+                # What everybody was told is no gap.
+                ([Message(squall.frame.done(2, 1, 3))], 3),
+                ([], 3),
+            ]
+            for bus.comes, shown in turns:
+                node.turn(0.0)
+                self.assertEqual(len(bus.asked), shown)
 
     def test_a_digest_that_is_too_long_is_not_shown(self) -> None:
         bus = Said()
