@@ -3,7 +3,6 @@
 
 mod clients;
 mod example;
-mod listed;
 mod route_clients;
 mod tolerant;
 
@@ -11,24 +10,11 @@ use squall_board::*;
 use squall_join::Flat;
 use squall_report::Report;
 use squall_test_example::{issue, load};
-use std::alloc::{AllocError, Global};
-
-/// The board of these reports.
-pub(crate) fn board_of(alloc: Global, reports: &[Report]) -> Result<Board, AllocError> {
-    let mut board = Board::new(alloc);
-    board.take_all(reports)?;
-    Ok(board)
-}
+use std::alloc::Global;
 
 /// The reports of a load at partition 3 and of the completion of partition 4.
 pub(crate) fn two_reports() -> Option<[Report; 2]> {
     Some([load("2:0", "3:0")?, Report::done(1, 0, 4)?])
-}
-
-/// The board of the two reports. None if an allocation fails.
-pub(crate) fn board_of_two(alloc: Global) -> Option<Board> {
-    let reports = two_reports()?;
-    board_of(alloc, &reports).ok()
 }
 
 /// Takes the report, if there is one. None if an allocation fails.

@@ -3,7 +3,6 @@
 
 mod example;
 mod legs;
-mod many;
 mod patches;
 mod tolerant;
 

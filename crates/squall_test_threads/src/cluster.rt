@@ -11,7 +11,6 @@ mod clusters;
 mod example;
 mod gates;
 mod made;
-mod numbered;
 mod races;
 mod sizes;
 mod steps;

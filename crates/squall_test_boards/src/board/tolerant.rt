@@ -1,11 +1,11 @@
 //! If an allocation fails a board is unchanged. Here are the calls that neither the program nor the C library makes with a
 //! board of its own, and the tests in C show the same of the others.
 
-use crate::board::listed::{complete, still_issue};
-use crate::board::{has_one_issue, two_reports};
-use squall_board::Board;
+use crate::board::{has_one_issue, issued, two_reports};
+use squall_board::{Board, Cell};
 use squall_report::Report;
-use squall_test_example::load;
+use squall_span::SpanSet;
+use squall_test_example::{NEW, OLD, load};
 use std::alloc::Global;
 use std::process::Abort;
 
@@ -59,10 +59,7 @@ fn takes_two(board: &mut Board) -> Option<(bool, bool)> {
 
 /// Whether the board took a completion and an issue, and whether it has both.
 fn takes_two_with_issue(alloc: Global, board: &mut Board) -> Option<(bool, bool)> {
-    let reports = [
-        Report::done(1, 0, 4)?,
-        Report::issued(2, still_issue(alloc)?)?,
-    ];
+    let reports = [Report::done(1, 0, 4)?, issued(alloc, 2, NEW, OLD)?];
     let taken = board.take_all(&reports).is_ok();
     let tells = board.says_done(1, 0, 4) && has_one_issue(board, 2);
     Some((taken, tells))
@@ -70,7 +67,7 @@ fn takes_two_with_issue(alloc: Global, board: &mut Board) -> Option<(bool, bool)
 
 /// Whether the completion of partition 3 was put into the board, and whether the board has it.
 fn puts_completion(alloc: Global, board: &mut Board) -> Option<(bool, bool)> {
-    let cell = complete(alloc, 2, 1, 3)?;
+    let cell = Cell::new(2, 1, 3, true, SpanSet::empty(alloc))?;
     let put = board.put_cell(&cell).is_ok();
     Some((put, board.says_done(2, 1, 3)))
 }

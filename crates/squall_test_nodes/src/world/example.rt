@@ -1,6 +1,6 @@
 //! The example of the crate's first page.
 
-use crate::world::{NEW, world_to};
+use crate::world::world;
 use squall_errand::Reply;
 use squall_key::{Key, PartId};
 use squall_world::{Answer, Node, World};
@@ -31,7 +31,7 @@ fn first_key_moves(rt: &impl Abort, world: &mut World) -> Option<()> {
 
 #[test]
 fn key_moves(rt: HostRuntime) -> Result<(), Fail> {
-    let mut world = world_to(rt.alloc(), &NEW).ok_or("a world")?;
+    let mut world = world(rt.alloc()).ok_or("a world")?;
     first_key_moves(&rt, &mut world).ok_or("a move")?;
     Ok(())
 }

@@ -15,6 +15,6 @@ fn keys_rise<K: MapKey, V: Join>(map: &JoinMap<K, V>)
 
 #[test]
 fn clients(rt: HostRuntime) {
-    let map = map(rt.alloc(), &[(4, 1), (1, 3)]).expect(&rt, "memory");
+    let map = map(rt.alloc(), (4, 1), (1, 3)).expect(&rt, "memory");
     keys_rise(&map);
 }
