@@ -1,0 +1,12 @@
+pub mod Apart
+pub mod Views
+pub mod Left
+pub mod Enabled
+pub mod Fates
+pub mod Walk
+pub mod Filtered
+pub mod Greedy
+pub mod Origins
+pub mod Heard
+pub mod Judged
+pub mod Alone
