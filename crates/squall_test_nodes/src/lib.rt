@@ -15,6 +15,7 @@ macro_rules! holds {
     };
 }
 
+mod audit;
 #[cfg(test)]
 mod check;
 #[cfg(test)]
