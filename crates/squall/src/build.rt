@@ -2,4 +2,4 @@
 //! `tools/sources --stamp` writes this file, which the checksum leaves out.
 
 /// The line that `squall --version` shows.
-pub(crate) const TITLE: &str = "squall 0.3.0 (ca44e07c)\n";
+pub(crate) const TITLE: &str = "squall 0.3.0 (05f9e4e6)\n";
