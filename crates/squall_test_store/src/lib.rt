@@ -10,3 +10,5 @@ mod memory;
 mod several;
 #[cfg(test)]
 mod stores;
+#[cfg(test)]
+mod world_rows;
