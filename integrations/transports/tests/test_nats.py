@@ -54,7 +54,7 @@ class Losses(CourseTest):
 
     def test_digests_mend_what_was_lost(self) -> None:
         # One that shows no digests, beside the others: it has to lack something in the end.
-        control = self.follower("control", 1000.0)
+        control = self.follower("control", 1e9)
         nodes = self.work(lambda: None)
         self.assertEqual(control.end(), 0)
         self.assertNotEqual(self.bytes_of("control"), self.bytes_of("publisher"))
