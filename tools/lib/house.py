@@ -18,7 +18,9 @@ sys.dont_write_bytecode = True
 import needs
 
 TOP = Path(__file__).resolve().parents[2]
-MUTANTS = ("mutants", "mutants/more", "must-fail")
+# The folders of a crate's mutants that the gate tries, and all of them.
+GATE = ("mutants", "mutants/definitions")
+MUTANTS = (*GATE, "mutants/more")
 EXCUSE = re.compile(r"#\s*(\w+(?:, *\w+)*): (\S.*)")
 FACT = re.compile(r"#\| (group|does|value|proved): (\S.*)")
 PROVED = re.compile(r"(.*) \(([^()]*)\)")
