@@ -9,6 +9,21 @@ use squall_span::Span;
 use std::alloc::Global;
 use std::sync::Arc;
 
+/// Ends the test if the condition does not hold.
+///
+/// As `assert!`, but a call: the prover looks at the way out in `check::holds` of the calling crate
+/// alone, and not at each place that asserts. That function is in each crate of tests, since only
+/// tests may end the process.
+#[macro_export]
+macro_rules! holds {
+    ($rt:expr; $condition:expr) => {
+        crate::check::holds($rt, $condition, stringify!($condition))
+    };
+    ($rt:expr; $condition:expr, $text:expr) => {
+        crate::check::holds($rt, $condition, $text)
+    };
+}
+
 /// Partition 1 below 3:0, then 2 below 5:0, then 3 below 9:0, then 4.
 pub const OLD: &str = concat!(
     r#"{"plan":[{"part":1,"from":[0,0],"to":[3,0]},{"part":2,"from":[3,0],"to":[5,0]},"#,

@@ -8,6 +8,7 @@ mod frames;
 mod tolerant;
 
 use squall_board::Board;
+use squall_test_example::holds;
 use squall_wire::*;
 use std::alloc::{AllocError, Global};
 use std::process::Abort;

@@ -1,20 +1,6 @@
 //! Tests of routers, partitions, leaders, their laws and worlds, over public names alone. There is nothing here to call.
 #![tactic(auto)]
 
-/// Ends the test if the condition does not hold.
-///
-/// As `assert!`, but a call: the prover looks at the way out in `check::holds` alone, and not at
-/// each place that asserts.
-#[cfg(test)]
-macro_rules! holds {
-    ($rt:expr; $condition:expr) => {
-        crate::check::holds($rt, $condition, stringify!($condition))
-    };
-    ($rt:expr; $condition:expr, $text:expr) => {
-        crate::check::holds($rt, $condition, $text)
-    };
-}
-
 mod audit;
 #[cfg(test)]
 mod check;

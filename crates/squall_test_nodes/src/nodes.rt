@@ -15,7 +15,7 @@ use squall_part::{FinishFault, GiveFault, Part};
 use squall_plan::Plan;
 use squall_report::{Report, ReportKind};
 use squall_router::Router;
-use squall_test_example::{NEW, OLD, plan};
+use squall_test_example::{NEW, OLD, holds, plan};
 use std::alloc::Global;
 use std::process::Abort;
 

@@ -13,7 +13,7 @@ use squall_part::{Chunk, LoadFault, Part};
 use squall_replay::laws::one_partition;
 use squall_replay::{Answer, Call, CallFault, replay};
 use squall_report::Report;
-use squall_test_example::span;
+use squall_test_example::{holds, span};
 use std::alloc::Global;
 use std::process::Abort;
 use std::sync::Arc;

@@ -5,7 +5,7 @@
 mod clients;
 mod example;
 
-use squall_test_example::{NEW, OLD, plan};
+use squall_test_example::{NEW, OLD, holds, plan};
 use squall_world::{Answer, Event, Node, World};
 use std::alloc::Global;
 

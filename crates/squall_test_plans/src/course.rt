@@ -7,7 +7,7 @@ mod example;
 use squall_course::{Course, Owners, Status};
 use squall_key::{Bound, Key, PartId};
 use squall_span::{Span, SpanSet};
-use squall_test_example::course;
+use squall_test_example::{course, holds};
 use std::alloc::Global;
 use std::process::Abort;
 

@@ -6,7 +6,7 @@ mod example;
 
 use squall_key::{Key, PartId};
 use squall_plan::Plan;
-use squall_test_example::{NEW, plan};
+use squall_test_example::{NEW, holds, plan};
 use std::process::Abort;
 
 fn key(rt: &impl Abort, text: &str) -> Key {

@@ -5,7 +5,7 @@ mod worked;
 
 use squall_join::Exact;
 use squall_report::Issue;
-use squall_test_example::{OLD, plan};
+use squall_test_example::{OLD, holds, plan};
 use std::alloc::Global;
 use std::process::Abort;
 use std::sync::Arc;

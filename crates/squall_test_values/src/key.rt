@@ -3,6 +3,7 @@
 mod example;
 
 use squall_key::*;
+use squall_test_example::holds;
 use std::alloc::Global;
 use std::fmt::Display;
 use std::process::Abort;

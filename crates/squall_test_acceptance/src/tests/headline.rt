@@ -9,7 +9,7 @@ use squall_course::Course;
 use squall_delta::delta_of;
 use squall_key::{Key, PartId};
 use squall_report::Report;
-use squall_test_example::{course, load};
+use squall_test_example::{course, holds, load};
 use std::alloc::{AllocError, Global};
 use std::process::Abort;
 

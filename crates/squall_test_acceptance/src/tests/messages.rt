@@ -3,7 +3,7 @@
 ghost use Rattle.std.specs.Prelude.{◌≡◌, Some, IfOk};
 
 use squall_board::Board;
-use squall_test_example::load;
+use squall_test_example::{holds, load};
 use squall_wire::{Message, decode, encode_board};
 use std::alloc::Global;
 use std::test::Fail;

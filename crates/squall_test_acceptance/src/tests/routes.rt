@@ -17,7 +17,7 @@ use squall_key::{Key, PartId};
 use squall_report::Report;
 use squall_router::Router;
 use squall_table::Legs;
-use squall_test_example::{NEW, OLD, course, issue, load};
+use squall_test_example::{NEW, OLD, course, holds, issue, load};
 use std::alloc::{AllocError, Global};
 use std::process::Abort;
 use std::sync::Arc;

@@ -9,6 +9,7 @@ ghost use Rattle.squall_board.specs.Listed.{CellEntry, AreCells};
 use squall_board::laws::{facts_lie_within_the_limits, one_list_of_cells};
 use squall_board::{Board, Cell};
 use squall_span::SpanSet;
+use squall_test_example::holds;
 use std::alloc::Global;
 use std::process::Abort;
 

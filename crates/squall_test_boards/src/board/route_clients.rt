@@ -13,7 +13,7 @@ use squall_board::laws::{taken_openings_count, taken_reports_route};
 use squall_course::Course;
 use squall_key::{Key, PartId};
 use squall_report::Report;
-use squall_test_example::{NEW, OLD, course};
+use squall_test_example::{NEW, OLD, course, holds};
 use std::alloc::{AllocError, Global};
 use std::process::Abort;
 

@@ -5,7 +5,7 @@ use crate::board::{has_one_issue, issued, two_reports};
 use squall_board::{Board, Cell};
 use squall_report::Report;
 use squall_span::SpanSet;
-use squall_test_example::{NEW, OLD, load};
+use squall_test_example::{NEW, OLD, holds, load};
 use std::alloc::Global;
 use std::process::Abort;
 

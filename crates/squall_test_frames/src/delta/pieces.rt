@@ -7,6 +7,7 @@ use crate::wire::{LOAD, are_of, board_of};
 use squall_board::Board;
 use squall_delta::laws::pieces_have_frames;
 use squall_delta::pieces;
+use squall_test_example::holds;
 use squall_wire::{EncodeFault, encode_board};
 use std::alloc::Global;
 use std::process::Abort;

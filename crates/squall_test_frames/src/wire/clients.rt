@@ -4,6 +4,7 @@ ghost use Rattle.std.specs.Prelude.{◌++◌, IfOk};
 ghost use Rattle.squall_wire.specs.Hearing.{HearsOn};
 
 use super::*;
+use squall_test_example::holds;
 use squall_wire::laws::{faults_end_the_stream, pushes_are_one};
 use std::process::Abort;
 

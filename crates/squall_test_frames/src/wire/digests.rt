@@ -4,6 +4,7 @@ use super::*;
 use squall_board::{Board, Cell, CellParts, Opening};
 use squall_join::Flat;
 use squall_report::{CellId, Issue};
+use squall_test_example::holds;
 use std::alloc::{AllocError, Global};
 use std::process::Abort;
 use std::sync::Arc;

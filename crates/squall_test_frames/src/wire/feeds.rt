@@ -1,6 +1,7 @@
 //! What follows a frame. Streams in pieces the tests in C show.
 
 use super::*;
+use squall_test_example::holds;
 use std::alloc::Global;
 use std::process::Abort;
 

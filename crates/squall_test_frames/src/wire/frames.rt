@@ -1,6 +1,7 @@
 //! Frames that are read, and written again. Bytes that are no frame the tests in C show.
 
 use super::*;
+use squall_test_example::holds;
 use std::alloc::Global;
 use std::process::Abort;
 

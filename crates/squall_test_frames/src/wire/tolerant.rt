@@ -4,6 +4,7 @@ use super::digests::{CELLS, ISSUES, look_at_items};
 use super::frames::EACH;
 use super::*;
 use squall_board::Board;
+use squall_test_example::holds;
 use std::alloc::Global;
 use std::process::Abort;
 

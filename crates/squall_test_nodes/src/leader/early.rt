@@ -6,7 +6,7 @@ use squall_leader::LeftFault;
 use squall_leader::left::left;
 use squall_plan::{Plan, PlanRange};
 use squall_span::{Span, SpanSet};
-use squall_test_example::{course, span};
+use squall_test_example::{course, holds, span};
 use std::alloc::{AllocError, Global};
 use std::process::Abort;
 

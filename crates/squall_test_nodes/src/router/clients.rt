@@ -19,6 +19,7 @@ use squall_key::{Key, PartId};
 use squall_router::Router;
 use squall_router::laws::{all_in_is_the_new_plan, routers_follow_reports, same_told_same_routers};
 use squall_table::Legs;
+use squall_test_example::holds;
 use std::process::Abort;
 use std::sync::Arc;
 

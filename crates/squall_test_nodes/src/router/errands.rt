@@ -5,6 +5,7 @@ ghost use Rattle.squall_errand.specs.Errands.{answers_of};
 
 use squall_key::PartId;
 use squall_router::{Errand, Next, Reply};
+use squall_test_example::holds;
 use std::alloc::{AllocError, Global};
 use std::process::Abort;
 

@@ -2,6 +2,7 @@
 
 use super::{Said, delta, heard, report};
 use squall_router::Router;
+use squall_test_example::holds;
 use std::alloc::Global;
 use std::test::Fail;
 

@@ -3,6 +3,7 @@
 use super::{has_entry, span};
 use squall_join::{Beyond, Join, JoinMap, Max, Pair};
 use squall_span::SpanSet;
+use squall_test_example::holds;
 use std::alloc::{AllocError, Global};
 use std::process::Abort;
 

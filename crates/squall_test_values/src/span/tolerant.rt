@@ -2,6 +2,7 @@
 
 use squall_key::Bound;
 use squall_span::{Span, SpanSet};
+use squall_test_example::holds;
 use std::alloc::{AllocError, Global};
 use std::process::Abort;
 use std::test::Fail;
