@@ -21,7 +21,7 @@ FISHDIR = $(DATADIR)/fish/vendor_completions.d
 INSTALLED = $(DATADIR)/squall/installed
 
 # Found when something is installed, and then once.
-FROM = $(eval FROM := $(if $(wildcard libsquall.a),.,$(shell tools/released all)))$(FROM)
+FROM = $(eval FROM := $(if $(wildcard libsquall.a),.,$(shell tools/releasing/released all)))$(FROM)
 SONAME = $(shell cd "$(FROM)" && echo libsquall.so.*)
 # The folder below which `stage` makes all that is installed.
 STAGE =

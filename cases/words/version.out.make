@@ -1,2 +1,2 @@
 # The version, and with which digits the checksum of the sources begins.
-../tools/sources --title
+../tools/releasing/sources --title

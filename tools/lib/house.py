@@ -6,7 +6,7 @@
   python3 tools/lib/house.py below NAME        the crates of this repository below it, each after those it stands on
   python3 tools/lib/house.py changed T E C     what tool T says if it expected E of the toolchain's private parts and C came
 
-tools/sources alone reads crates.txt by itself: it has to run without Python.
+tools/releasing/sources alone reads crates.txt by itself: it has to run without Python.
 """
 import re
 import subprocess

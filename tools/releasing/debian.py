@@ -165,7 +165,7 @@ def build(package, stage, to, version, date):
 
 def packages(top, to, version, date):
     """Makes the packages in the folder."""
-    ran = subprocess.run([top / "tools/released", "all"], stdout=subprocess.PIPE, text=True, check=False)
+    ran = subprocess.run([top / "tools/releasing/released", "all"], stdout=subprocess.PIPE, text=True, check=False)
     if ran.returncode:
         return 1
     folder = Path(ran.stdout.strip())

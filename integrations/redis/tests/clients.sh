@@ -31,7 +31,7 @@ counts() {
 
 # Sets `program` to the program squall. An unpacked archive has it beside the library.
 set_program() {
-  if program=$("$top/tools/released" program 2> /dev/null); then
+  if program=$("$top/tools/releasing/released" program 2> /dev/null); then
     program=$program/squall
   elif "$top/tools/releasing/is-built"; then
     program=$top/squall
