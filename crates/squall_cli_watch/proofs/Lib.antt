@@ -4,3 +4,4 @@ pub mod Watching
 pub mod BarLines
 pub mod Drawing
 pub mod Shown
+pub mod News

@@ -16,11 +16,15 @@ use Rattle.squall_cli_lines.specs.declared.RunFault.TheVariants.{Read, Write, No
 use Rattle.squall_cli_command.specs.declared.form.Form.{Form}
 use Rattle.squall_cli_watch.specs.declared.watcher.Watcher.{Watcher}
 use Rattle.squall_cli_boards.specs.Files.{fault_after}
-use Rattle.squall_cli_watch.specs.Watched.{AnswersFrames, refused_frame}
+use Rattle.squall_cli_watch.specs.Watched.{AnswersFrames, IsNewestText, refused_frame}
 
 -- the scripts that answer the frames to come
 abbrev pub plays : Watcher → List Body → Option WireFault → Script → Type 0
 plays w bodies fault s = AnswersFrames w.form w.first w.board (string_bytes w.shown) bodies fault s
+
+-- the status that was answered last, if one was, is that of the board
+abbrev pub ShowsNewest : Watcher → Type 0
+ShowsNewest w = string_bytes w.shown ≢ [] → IsNewestText w.form w.first w.board (string_bytes w.shown)
 
 -- One frame taken. Whatever answers the frames after it, answers this frame too if this text comes first; or this text ends the answers.
 abbrev pub TakesFrame : Flow → List ℕ → (List Body → Option WireFault → Script → Type 0) → (List Body → Option WireFault → Script → Type 0) → Body → Type 0

@@ -7,7 +7,7 @@ ghost use Rattle.squall_cli_lines.specs.Heeding.{HeedsReads, HeedsWrites};
 ghost use Rattle.squall_cli_boards.specs.Known.{first_course};
 ghost use Rattle.squall_cli_watch.specs.Drawn.{ShowsBars};
 ghost use Rattle.squall_cli_watch.specs.Drawing.{DrawsOn};
-ghost use Rattle.squall_cli_watch.specs.Taken.{plays};
+ghost use Rattle.squall_cli_watch.specs.Taken.{ShowsNewest, plays};
 ghost use Rattle.squall_cli_watch.specs.Watched.{IsWatchedBy, Watches};
 
 use crate::bar::{BarLine, start_line};
@@ -38,6 +38,7 @@ fn answer_frames<S: Source, K: Sink, E: Sink>(
     line: &mut BarLine,
     err: &mut E,
 ) -> Result<Ended, RunFault>
+    requires current { ShowsNewest watcher.old }
     ensures text { ReadAndWrote (S.state reader.old) (S.state reader.new) (K.state writer.old) (K.state writer.new)
         (IsWatchedBy result (plays watcher.old)) }
     ensures fine { result ≡ Ok Ended.Fine → GaveAll (S.state reader.old) (S.state reader.new) }
@@ -75,6 +76,7 @@ fn answer_with_bar<S: Source, K: Sink, E: Sink>(
     writer: &mut K,
     err: &mut E,
 ) -> Result<Ended, RunFault>
+    requires current { ShowsNewest watcher.old }
     ensures text { ReadAndWrote (S.state reader.old) (S.state reader.new) (K.state writer.old) (K.state writer.new)
         (IsWatchedBy result (plays watcher.old)) }
     ensures fine { result ≡ Ok Ended.Fine → GaveAll (S.state reader.old) (S.state reader.new) }

@@ -6,7 +6,7 @@ ghost use Rattle.squall_cli_device.specs.States.{TookBytes};
 ghost use Rattle.squall_cli_lines.specs.Heeding.{HeedsWrites};
 ghost use Rattle.squall_cli_watch.specs.Drawn.{IsNewestBar};
 ghost use Rattle.squall_cli_watch.specs.Drawing.{JoinsBytes, JoinsPiece, ShowsPiece};
-ghost use Rattle.squall_cli_watch.specs.Taken.{plays, TakesPiece, AnswersPiece, AnswersEnd};
+ghost use Rattle.squall_cli_watch.specs.Taken.{ShowsNewest, plays, TakesPiece, AnswersPiece, AnswersEnd};
 
 use crate::bar::{BarLine, next_bar, send_above};
 use crate::refusal::unfinished;
@@ -26,10 +26,12 @@ fn take_piece(
     piece: &[u8],
     out: &mut Vec<u8>,
 ) -> Result<Flow, AllocError>
+    requires current { ShowsNewest watcher.old }
     ensures texts { IfOk result (λ flow. (texts : List (List ℕ)) × (out.new.items ≡ out.old.items ++ concat texts)
         × TakesPiece flow texts (plays watcher.old) (plays watcher.new) (waiting.old.items ++ piece.now) waiting.new.items) }
     ensures board { IfOk result (λ flow. JoinsBytes flow watcher.old.board watcher.new.board (waiting.old.items ++ piece.now) waiting.new.items) }
     ensures first { OnOk result (watcher.new.first ≡ watcher.old.first) }
+    ensures current { OnOk result (ShowsNewest watcher.new) }
 {
     waiting.extend_from_slice(piece)?;
     let (heard, rest) = hear(alloc, waiting)?;
@@ -49,11 +51,13 @@ pub(crate) fn answer_piece<K: Sink, E: Sink>(
     line: &mut BarLine,
     err: &mut E,
 ) -> Result<Flow, RunFault>
+    requires current { ShowsNewest watcher.old }
     ensures text { (sent : List ℕ) × TookBytes (K.state writer.old) (K.state writer.new) sent
         × AnswersPiece result (plays watcher.old) (plays watcher.new) (waiting.old.items ++ piece.now) waiting.new.items sent }
     ensures heeds { HeedsWrites result (K.state writer.old) (K.state writer.new) }
     ensures board { JoinsPiece result watcher.old.board watcher.new.board (waiting.old.items ++ piece.now) waiting.new.items }
     ensures first { result ≢ Err RunFault.NoMemory → watcher.new.first ≡ watcher.old.first }
+    ensures current { OnOk result (ShowsNewest watcher.new) }
     ensures bar { ShowsPiece result (IsNewestBar watcher.new.first watcher.new.board) line.old line.new (E.state err.old) (E.state err.new) }
 {
     let mut out = Vec::new(alloc);

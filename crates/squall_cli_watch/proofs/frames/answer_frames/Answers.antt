@@ -32,6 +32,7 @@ loop-turn-init g c =
       reads = reading_start reader;
       kept = (refl, refl);
       first = refl;
+      current = c.requires.current;
       off = λ e. (e, refl);
       drawing = λ on. subst (Drawing c.args.watcher.now.first c.args.watcher.now.board c.args.watcher.now.board c.args.line.now.shown reader.remaining reader.remaining
           (g.E.Sink.state c.args.err.now) (g.E.Sink.state c.args.err.now) c.args.line.now) waiting_is
@@ -86,6 +87,7 @@ loop-turn-preserved g c =
       reads = reading_more _ (g.S.Source.state c.args.reader.now) (g.S.Source.state c.loop-turn.reader) (g.S.Source.state c.read.new.self) i.reads _ c.in-Ok.n c.in-Ok.ensures.reads c.in-Ok.ensures.faults c.in-Ok.ensures.ends c.if-n-eq0.false;
       kept = (h.0 ∙ i.kept.0, h.1 ∙ i.kept.1);
       first = b.first (λ e. cc) ∙ i.first;
+      current = b.current;
       off = λ off. quiet_piece (Ok On) (IsNewestBar c.answer_piece.new.watcher.first c.answer_piece.new.watcher.board) c.loop-turn.line c.answer_piece.new.line
           (g.E.Sink.state c.args.err.now) (g.E.Sink.state c.loop-turn.err) (g.E.Sink.state c.answer_piece.new.err) (i.off off) b.bar;
       drawing = λ on. draws_more c.answer_piece.new.watcher.first c.args.watcher.now.first c.args.watcher.now.board c.loop-turn.watcher.board c.answer_piece.new.watcher.board c.args.line.now.shown

@@ -44,6 +44,7 @@ loop-message-preserved c =
       joined = joining_more c.args.self.now.board c.loop-message.self.board c.take_message.new.self.board (map body_of (drop at ms)) (map body_of ms) c.loop-message.invariant.joined
           (body_of c.message-item.result) (map body_of (drop (at + 1) ms)) left (rw c.in-On.is at c.in_ok-take_message.ensures.board);
       first = c.in_ok-take_message.ensures.first ∙ c.loop-message.invariant.first;
+      current = c.in_ok-take_message.ensures.current;
     }
 
 pub returns-in_ok-add_refusal-in-Some-clause-texts : goal.returns-in_ok-add_refusal-in-Some-clause-texts

@@ -2,7 +2,7 @@ use Rattle.std.proofs.Common.{◌≡◌, ◌++◌, ℕ, List, drop}
 use Rattle.std.specs.Prelude.{map}
 use Rattle.std.specs.List.{concat}
 use Rattle.squall_wire.specs.Messages.{body_of}
-use Rattle.squall_cli_watch.specs.Taken.{plays}
+use Rattle.squall_cli_watch.specs.Taken.{ShowsNewest, plays}
 use Rattle.squall_cli_watch.proofs.Begun.{Begun, Joining}
 use Rattle.squall_cli_watch.proofs.watcher.Watcher.take_messages.Given as goal
 
@@ -13,4 +13,5 @@ invariant-loop-message l = record {
       × Begun (plays l.fn.self) (plays l.self) texts (map body_of (drop l.message-index l.messages)) (map body_of l.messages);
   joined : Joining l.fn.self.board l.self.board (map body_of (drop l.message-index l.messages)) (map body_of l.messages);
   first : l.self.first ≡ l.fn.self.first;
+  current : ShowsNewest l.self;
 }
