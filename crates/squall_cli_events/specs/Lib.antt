@@ -5,3 +5,4 @@ pub use Rattle.squall_protocol.specs.Worlds
 pub use Rattle.squall_protocol.specs.Steps
 pub mod EventLines
 pub mod AnswerText
+pub mod RowLines
