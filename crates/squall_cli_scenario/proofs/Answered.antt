@@ -11,7 +11,7 @@ use Rattle.squall_board.specs.Boards.{BoardValue}
 use Rattle.squall_cli_lines.specs.Script.{Script, TakesLine, after, last_word}
 use Rattle.squall_cli_lines.specs.Words.{without_cr}
 use Rattle.squall_wire.specs.Hearing.{FeedValue}
-use Rattle.squall_world.specs.Nets.{NetValue}
+use Rattle.squall_world_rows.specs.Seen.{RowNetValue}
 use Rattle.squall_cli_scenario.specs.State.{StageOf, ScenarioOf, ScenarioState}
 use Rattle.squall_cli_scenario.specs.Stages.{meant}
 use Rattle.squall_cli_scenario.specs.Replies.{Reply, Goes, Happens, Ends, at_next_line, Follows, reply_to_line, MayAnswer}
@@ -24,7 +24,7 @@ bad_text line why = bad_line line why ++ codes "\n"
 bad_answer : (why : Reason) (o o1 o2 said : List ℕ) (line : ℕ) (s1 : ScenarioState) (reply : Reply) → o1 ≡ o ++ said → IsReply (Some why) said s1 reply → o2 ≡ o1 ++ bad_text line why
     → (text : List ℕ) × (o2 ≡ o ++ text) × IsAnswer End text s1 line reply
 bad_answer why o o1 o2 said line s1 (Goes text t) grown h e = absurd h
-bad_answer why o o1 o2 said line s1 (Happens w event t) grown h e = absurd h
+bad_answer why o o1 o2 said line s1 (Happens w act t) grown h e = absurd h
 bad_answer why o o1 o2 said line s1 (Ends reason) grown h e = (
   bad_text line why,
   e ∙ ap (λ w. w ++ bad_text line why) (grown ∙ ap (λ w. o ++ w) h.0 ∙ append-nil o),
@@ -45,16 +45,16 @@ answered_bad (Err e) why o o1 o2 line s1 reply a h = tt
 -- after the answer come those to the later lines
 said_on : (text : List ℕ) (t : ScenarioState) (n : ℕ) (reply : Reply) → IsAnswer On text t n reply → (lines : List (List ℕ)) (rest : Script) → MayAnswer t lines rest → Follows n reply (λ u r. MayAnswer u lines r) (after (text ∷ []) rest)
 said_on text t n (Goes said u) h lines rest may = (rest, subst (λ v. MayAnswer v lines rest) h.1 may, ap (λ w. after (w ∷ []) rest) h.0)
-said_on text t n (Happens w event u) h lines rest may = (text, t, rest, h, may, refl)
+said_on text t n (Happens w act u) h lines rest may = (text, t, rest, h, may, refl)
 said_on text t n (Ends reason) h lines rest may = absurd h
 
 said_end : (text : List ℕ) (t : ScenarioState) (n : ℕ) (reply : Reply) → IsAnswer End text t n reply → (lines : List (List ℕ)) → Follows n reply (λ u r. MayAnswer u lines r) (last_word text)
 said_end text t n (Goes said u) h lines = absurd h
-said_end text t n (Happens w event u) h lines = absurd h
+said_end text t n (Happens w act u) h lines = absurd h
 said_end text t n (Ends reason) h lines = ap last_word h
 
 -- the count of lines went up by one, and nothing else changed
-next_is : (l n : ℕ) (stage : StageOf NetValue) (board : BoardValue) (feed : FeedValue) (s : ScenarioOf NetValue) → record { line = l; stage = stage; board = board; feed = feed } ≡ s → n ≡ min (l + 1) (2 ^ 64 - 1) → meant (record { line = n; stage = stage; board = board; feed = feed }) ≡ at_next_line (meant s)
+next_is : (l n : ℕ) (stage : StageOf RowNetValue) (board : BoardValue) (feed : FeedValue) (s : ScenarioOf RowNetValue) → record { line = l; stage = stage; board = board; feed = feed } ≡ s → n ≡ min (l + 1) (2 ^ 64 - 1) → meant (record { line = n; stage = stage; board = board; feed = feed }) ≡ at_next_line (meant s)
 next_is l n stage board feed s view e =
     subst (λ u. meant (record { line = n; stage = stage; board = board; feed = feed }) ≡ at_next_line (meant u)) view (ap (λ m. meant (record { line = m; stage = stage; board = board; feed = feed })) e)
 
@@ -68,7 +68,7 @@ answered_line : (flow : Flow) (text line : List ℕ) (s t : ScenarioState) → I
 answered_line On text line s t a = λ lines rest may. said_on text t (at_next_line s).line (reply_to_line (at_next_line s) (without_cr line)) a lines rest may
 answered_line End text line s t a = λ lines. said_end text t (at_next_line s).line (reply_to_line (at_next_line s) (without_cr line)) a lines
 
-pub taken_line : (r : Result Flow AllocError) (o o1 w line : List ℕ) (l n : ℕ) (stage : StageOf NetValue) (board : BoardValue) (feed : FeedValue) (s t : ScenarioOf NetValue) → record { line = l; stage = stage; board = board; feed = feed } ≡ s → n ≡ min (l + 1) (2 ^ 64 - 1) → w ≡ without_cr line
+pub taken_line : (r : Result Flow AllocError) (o o1 w line : List ℕ) (l n : ℕ) (stage : StageOf RowNetValue) (board : BoardValue) (feed : FeedValue) (s t : ScenarioOf RowNetValue) → record { line = l; stage = stage; board = board; feed = feed } ≡ s → n ≡ min (l + 1) (2 ^ 64 - 1) → w ≡ without_cr line
     → IfOk r (λ flow. (text : List ℕ) × (o1 ≡ o ++ text) × IsAnswer flow text (meant t) n (reply_to_line (meant (record { line = n; stage = stage; board = board; feed = feed })) w))
     → IfOk r (λ flow. (text : List ℕ) × (o1 ≡ o ++ text) × TakesLine flow text (MayAnswer (meant s)) (MayAnswer (meant t)) line)
 taken_line (Ok flow) o o1 w line l n stage board feed s t view e h a = (

@@ -63,13 +63,16 @@ unfolding encode_with
 hex_no_lf t [] h = refl
 hex_no_lf t (b ∷ bytes) h = with_first (slice_index t (b / 16)) (slice_index t (b % 16) ∷ encode_with t bytes) (digit_no_lf t (b / 16) h) (with_first (slice_index t (b % 16)) (encode_with t bytes) (digit_no_lf t (b % 16) h) (hex_no_lf t bytes h))
 
+pub encoded_no_lf : (bytes : List ℕ) → no_lf (encode_lower bytes) ≡ true
+encoded_no_lf bytes = hex_no_lf lower_digits bytes refl
+
 abbrev digits_line : List ℕ → List ℕ
 digits_line bytes = codes "frame " ++ (encode_lower bytes ++ codes "\n")
 
 digits_lack : (bytes : List ℕ) → Lacks bad (digits_line bytes)
 digits_lack bytes =
     lacks_line bad (digits_line bytes) (codes "frame " ++ (encode_lower bytes ++ []))
-    (spells_glued (codes "frame ") (encode_lower bytes ++ codes "\n") (encode_lower bytes ++ []) [] refl (spells_glued (encode_lower bytes) (codes "\n") [] [] (hex_no_lf lower_digits bytes refl) spells_lf))
+    (spells_glued (codes "frame ") (encode_lower bytes ++ codes "\n") (encode_lower bytes ++ []) [] refl (spells_glued (encode_lower bytes) (codes "\n") [] [] (encoded_no_lf bytes) spells_lf))
     (λ rest. differs_at 0 (codes "frame " ++ (encode_lower bytes ++ [])) (bad ++ rest) (λ e. omega (arith, e)))
 
 too_long_lacks : Lacks bad (codes "no TooLong\n")

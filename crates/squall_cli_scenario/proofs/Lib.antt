@@ -1,8 +1,8 @@
 pub mod Answered
 pub mod Heard
 pub mod ShownLegs
-pub mod LineWords
 pub mod AnswerTexts
+pub mod RowTexts
 pub mod Refusals
 pub mod OneScript
 pub mod Made

@@ -1,10 +1,10 @@
 -- Which runs are refused, by the last line of what they answer.
-use Rattle.std.proofs.Common.{◌≡◌, ◌≢◌, ℕ, List, [], ◌∷◌, ◌++◌, length, Bool, true, false, Option, None, Some, Result, Ok, Err, suc, refl, sym, ap, subst, arith, append_assoc, ◌∙◌, nat_lt}
+use Rattle.std.proofs.Common.{◌≡◌, ◌≢◌, ℕ, List, [], ◌∷◌, ◌++◌, length, Bool, true, false, Option, None, Some, Result, Ok, Err, suc, refl, sym, ap, subst, arith, append_assoc, ◌∙◌, nat_lt, nat_le}
 use Rattle.std.proofs.lemmas.Bool.{false≢true}
 use Rattle.std.proofs.lemmas.List.{append-nil}
 use Rattle.std.specs.Prelude.{codes, ◌==◌}
 use Rattle.std.specs.Fmt.{decimal}
-use Rattle.squall_key.specs.Keys.{text_of_key}
+use Rattle.squall_key.specs.Keys.{part_limit, text_of_key}
 use Rattle.squall_span.specs.Spans.{Interval, span_at}
 use Rattle.squall_plan.specs.declared.range.PlanRange.{PlanRange}
 use Rattle.squall_plan.specs.declared.fault.PlanFault.{PlanFault}
@@ -17,13 +17,16 @@ use Rattle.squall_cli_lines.specs.Script.{Script, text_of, after}
 use Rattle.squall_cli_lines.specs.Words.{without_cr}
 use Rattle.squall_cli_words.specs.declared.reason.Reason.{Reason}
 use Rattle.squall_cli_scenario.specs.State.{StageState, NoPlan, OldPlan, BothPlans, InWorld, ScenarioState, at_start, has_world}
-use Rattle.squall_cli_scenario.specs.Requests.{Request, Skip, Old, New, Report, Issued, Route, Legs, Board, Hear, Frame, World, Happen, Bad, request_of}
-use Rattle.squall_cli_scenario.specs.Replies.{Reply, Goes, Happens, Ends, old_plan, old_reply, new_plan, new_reply, take_reply, report_reply, issue_reply, limit_where, issued_reply, first_course, route_reply, span_reply, legs_reply, board_reply, feed_reply, bytes_reply, hear_reply, frame_reply, world_of, world_reply, event_reply, happen_reply, reply_to, reply_to_line, at_next_line, Happened, Follows, MayAnswer}
+use Rattle.squall_cli_scenario.specs.Requests.{Request, Skip, Old, New, Report, Issued, Route, Legs, Board, Hear, Frame, World, Happen, Row, Bad, request_of}
+use Rattle.squall_cli_scenario.specs.Replies.{Reply, Goes, Happens, Ends, old_plan, old_reply, new_plan, new_reply, take_reply, report_reply, issue_reply, limit_where, issued_reply, first_course, route_reply, span_reply, legs_reply, board_reply, feed_reply, bytes_reply, hear_reply, frame_reply, world_of, world_reply, event_reply, happen_reply, command_of, ask_reply, reply_to, reply_to_line, at_next_line, Happened, Follows, MayAnswer}
 use Rattle.squall_cli_words.specs.Reasons.{text_of_reason, bad_line}
 use Rattle.squall_cli_words.specs.ReportLines.{report_of}
 use Rattle.squall_cli_words.specs.Endings.{EndsInBadLine, EndsInNoBadLine, HasNoBadLine}
 use Rattle.squall_protocol.specs.declared.event.Event.{Event}
-use Rattle.squall_protocol.specs.Worlds.{WorldValue, most_routers, first_parts}
+use Rattle.squall_protocol.specs.Worlds.{most_routers, first_parts}
+use Rattle.squall_rows.specs.RowSteps.{Act, Ask}
+use Rattle.squall_store.specs.declared.command.Command.{Command}
+use Rattle.squall_world_rows.specs.Maps.{MapWorld}
 use Rattle.squall_cli_events.specs.declared.events.Unfit.{Unfit}
 use Rattle.squall_cli_events.specs.declared.events.Unfit.TheVariants.{OverLimit, NoPlan as no_plan}
 use Rattle.squall_cli_events.specs.EventLines.{event_of}
@@ -33,7 +36,7 @@ use Rattle.squall_cli_words.proofs.Boards.{board_lacks}
 use Rattle.squall_cli_scenario.proofs.ShownLegs.{legs_lack}
 use Rattle.squall_cli_scenario.specs.LegText.{legs_of_span}
 use Rattle.squall_course.specs.Change.{Change}
-use Rattle.squall_cli_scenario.proofs.AnswerTexts.{answer_lacks}
+use Rattle.squall_cli_scenario.proofs.RowTexts.{outcome_lacks}
 use Rattle.squall_cli_scenario.proofs.Heard.{text_lacks, failed_lacks, frame_lacks}
 use Rattle.squall_wire.specs.Heard.{heard_of}
 use Rattle.hex.specs.Hex.{decode_of}
@@ -44,10 +47,10 @@ bad = codes "bad line "
 
 -- ---- replies
 
--- a reply that goes on has no bad line; nor has the answer to an event
+-- a reply that goes on has no bad line; nor has the answer to an act
 abbrev NotBad : Reply → Type 0
 NotBad (Goes text s) = Lacks bad text
-NotBad (Happens w event s) = Unit {0}
+NotBad (Happens w act s) = Unit {0}
 NotBad (Ends reason) = Unit {0}
 
 -- a word that does not begin as a bad line does, a number, and an LF
@@ -167,7 +170,7 @@ world_good s (OldPlan old) routers = tt
 world_good s (BothPlans old new) routers = limit_good (nat_lt most_routers routers) (world_of s old new routers) (world_lacks (length (first_parts old new)) routers)
 world_good s (InWorld w) routers = tt
 
-event_good : (s : ScenarioState) (w : WorldValue) (event : Result Event Unfit) → NotBad (event_reply s w event)
+event_good : (s : ScenarioState) (w : MapWorld) (event : Result Event Unfit) → NotBad (event_reply s w event)
 event_good s w (Ok event) = tt
 event_good s w (Err OverLimit) = tt
 event_good s w (Err (no_plan fault)) = tt
@@ -177,6 +180,12 @@ happen_good s NoPlan event = tt
 happen_good s (OldPlan old) event = tt
 happen_good s (BothPlans old new) event = tt
 happen_good s (InWorld w) event = event_good s w event
+
+ask_good : (s : ScenarioState) (stage : StageState) (part key : ℕ) (command : Command) → NotBad (ask_reply s stage part key command)
+ask_good s NoPlan part key command = tt
+ask_good s (OldPlan old) part key command = tt
+ask_good s (BothPlans old new) part key command = tt
+ask_good s (InWorld w) part key command = limit_good (nat_le part_limit part) (Happens w (Ask part key 0 command) s) tt
 
 reply_good : (s : ScenarioState) (request : Request) → NotBad (reply_to s request)
 reply_good s Skip = lacks_nothing bad
@@ -191,6 +200,7 @@ reply_good s (Hear digits) = hear_good s (decode_of digits)
 reply_good s Frame = frame_good s s.stage
 reply_good s (World routers) = world_good s s.stage routers
 reply_good s (Happen line) = happen_good s s.stage (event_of line)
+reply_good s (Row row) = ask_good s s.stage row.part row.key (command_of row.command)
 reply_good s (Bad reason) = tt
 
 line_good : (s : ScenarioState) (line : List ℕ) → NotBad (reply_to_line s line)
@@ -223,8 +233,8 @@ more_refuses a b h i = (
 abbrev EachRest : (ScenarioState → Script → Type 0) → (Script → Type 0) → Type 0
 EachRest then P = (t : ScenarioState) (rest : Script) → then t rest → P rest
 
-happened_lacks : (w : WorldValue) (event : Event) (s : ScenarioState) (text : List ℕ) (t : ScenarioState) → Happened w event s text t → Lacks bad text
-happened_lacks w event s text t h = subst (Lacks bad) (sym h.3) (answer_lacks event h.0)
+happened_lacks : (w : MapWorld) (act : Act Command) (s : ScenarioState) (text : List ℕ) (t : ScenarioState) → Happened w act s text t → Lacks bad text
+happened_lacks w act s text t h = subst (Lacks bad) (sym h.3) (outcome_lacks act h.0)
 
 -- where it is refused, it is whole lines, and a bad one last
 abbrev RefusesWhole : Script → Type 0
@@ -235,8 +245,8 @@ on_refuses text rest good later e = more_refuses text (text_of rest) good (later
 
 follow_refuses : (line : ℕ) (reply : Reply) (then : ScenarioState → Script → Type 0) (script : Script) → NotBad reply → EachRest then RefusesWhole → Follows line reply then script → RefusesWhole script
 follow_refuses line (Goes text t) then script good later f = subst RefusesWhole (sym f.2) (on_refuses text f.0 good (later t f.0 f.1))
-follow_refuses line (Happens w event s) then script good later f =
-    subst RefusesWhole (sym f.5) (on_refuses f.0 f.2 (happened_lacks w event s f.0 f.1 f.3) (later f.1 f.2 f.4))
+follow_refuses line (Happens w act s) then script good later f =
+    subst RefusesWhole (sym f.5) (on_refuses f.0 f.2 (happened_lacks w act s f.0 f.1 f.3) (later f.1 f.2 f.4))
 follow_refuses line (Ends reason) then script good later f = subst RefusesWhole (sym f) (λ e. bad_refuses line reason)
 
 from_refuses : (s : ScenarioState) (lines : List (List ℕ)) (script : Script) → MayAnswer s lines script → RefusesWhole script
@@ -262,8 +272,8 @@ on_lacks text rest good later e = lacks_append bad text (text_of rest) good (lat
 
 follow_lacks : (line : ℕ) (reply : Reply) (then : ScenarioState → Script → Type 0) (script : Script) → NotBad reply → EachRest then LacksAll → Follows line reply then script → LacksAll script
 follow_lacks line (Goes text t) then script good later f = subst LacksAll (sym f.2) (on_lacks text f.0 good (later t f.0 f.1))
-follow_lacks line (Happens w event s) then script good later f =
-    subst LacksAll (sym f.5) (on_lacks f.0 f.2 (happened_lacks w event s f.0 f.1 f.3) (later f.1 f.2 f.4))
+follow_lacks line (Happens w act s) then script good later f =
+    subst LacksAll (sym f.5) (on_lacks f.0 f.2 (happened_lacks w act s f.0 f.1 f.3) (later f.1 f.2 f.4))
 follow_lacks line (Ends reason) then script good later f = subst LacksAll (sym f) (λ e. absurd (false≢true (sym e)))
 
 from_lacks : (s : ScenarioState) (lines : List (List ℕ)) (script : Script) → MayAnswer s lines script → LacksAll script
@@ -288,7 +298,7 @@ on_counts n text rest later e = ap suc (later e)
 
 follow_counts : (line : ℕ) (reply : Reply) (then : ScenarioState → Script → Type 0) (script : Script) (n : ℕ) → EachRest then (Counts n) → Follows line reply then script → Counts (suc n) script
 follow_counts line (Goes text t) then script n later f = subst (Counts (suc n)) (sym f.2) (on_counts n text f.0 (later t f.0 f.1))
-follow_counts line (Happens w event s) then script n later f = subst (Counts (suc n)) (sym f.5) (on_counts n f.0 f.2 (later f.1 f.2 f.4))
+follow_counts line (Happens w act s) then script n later f = subst (Counts (suc n)) (sym f.5) (on_counts n f.0 f.2 (later f.1 f.2 f.4))
 follow_counts line (Ends reason) then script n later f = subst (Counts (suc n)) (sym f) (λ e. absurd (false≢true (sym e)))
 
 from_counts : (s : ScenarioState) (lines : List (List ℕ)) (script : Script) → MayAnswer s lines script → Counts (length lines) script

@@ -6,10 +6,11 @@ use Rattle.squall_cli_lines.specs.declared.Flow.TheVariants.{On, End}
 use Rattle.squall_cli_words.specs.declared.reason.Reason.{Reason}
 use Rattle.squall_cli_words.specs.Reasons.{bad_line}
 use Rattle.squall_cli_events.specs.EventLines.{line_seen}
+use Rattle.squall_cli_events.specs.RowLines.{row_seen}
 use Rattle.squall_cli_scenario.specs.declared.command.Command.{Command}
 use Rattle.squall_cli_scenario.specs.declared.command.Command.TheVariants as code
 use Rattle.squall_cli_scenario.specs.State.{ScenarioState}
-use Rattle.squall_cli_scenario.specs.Requests.{Request, Skip, Old, New, Report, Issued, Route, Legs, Board, Hear, Frame, World, Happen, Bad}
+use Rattle.squall_cli_scenario.specs.Requests.{Request, Skip, Old, New, Report, Issued, Route, Legs, Board, Hear, Frame, World, Happen, Row, Bad}
 use Rattle.squall_cli_scenario.specs.Replies.{Reply, Goes, Happens, Ends, Happened}
 
 -- the request of a command
@@ -26,15 +27,16 @@ request_seen (code.Hear digits) = Hear digits.now
 request_seen code.Frame = Frame
 request_seen (code.World routers) = World routers
 request_seen (code.Happen words) = Happen (line_seen words)
+request_seen (code.Row words) = Row (row_seen words)
 request_seen (code.Bad reason) = Bad reason
 
 -- what was said, the scenario after it and the reason, if any, are the reply
 abbrev pub IsReply : Option Reason → List ℕ → ScenarioState → Reply → Type 0
 IsReply None said s (Goes text t) = (said ≡ text) × (s ≡ t)
-IsReply None said s (Happens w event u) = Happened w event u said s
+IsReply None said s (Happens w act u) = Happened w act u said s
 IsReply None said s (Ends reason) = ⊥
 IsReply (Some why) said s (Goes text t) = ⊥
-IsReply (Some why) said s (Happens w event u) = ⊥
+IsReply (Some why) said s (Happens w act u) = ⊥
 IsReply (Some why) said s (Ends reason) = (said ≡ []) × (why ≡ reason)
 
 -- unless an allocation failed, the text grew by what was said, which with the scenario and the reason is the reply
@@ -45,8 +47,8 @@ Answers (Err e) out out' s reply = Unit {0}
 -- this flow, text and scenario answer a line of that number with the reply
 abbrev pub IsAnswer : Flow → List ℕ → ScenarioState → ℕ → Reply → Type 0
 IsAnswer On text s line (Goes said t) = (text ≡ said) × (s ≡ t)
-IsAnswer On text s line (Happens w event u) = Happened w event u text s
+IsAnswer On text s line (Happens w act u) = Happened w act u text s
 IsAnswer On text s line (Ends reason) = ⊥
 IsAnswer End text s line (Goes said t) = ⊥
-IsAnswer End text s line (Happens w event u) = ⊥
+IsAnswer End text s line (Happens w act u) = ⊥
 IsAnswer End text s line (Ends reason) = text ≡ bad_line line reason ++ codes "\n"

@@ -1,7 +1,8 @@
 -- What a scenario answers, line by line (this project's scenario language).
-use Rattle.std.specs.Prelude.{◌≡◌, ℕ, ◌+◌, ◌-◌, ◌^◌, min, Bool, true, false, List, [], ◌∷◌, ◌++◌, length, nat_lt}
+use Rattle.std.specs.Prelude.{◌≡◌, ℕ, ◌+◌, ◌-◌, ◌^◌, min, Bool, true, false, List, [], ◌∷◌, ◌++◌, length, nat_lt, nat_le}
 use Rattle.std.specs.Prelude.{Option, None, Some, Result, Ok, Err, codes, ◌==◌}
 use Rattle.std.specs.Fmt.{decimal}
+use Rattle.squall_key.specs.Keys.{part_limit}
 use Rattle.squall_span.specs.Spans.{Interval, span_at}
 use Rattle.squall_plan.specs.declared.range.PlanRange.{PlanRange}
 use Rattle.squall_plan.specs.declared.fault.PlanFault.{PlanFault}
@@ -25,23 +26,28 @@ use Rattle.squall_cli_words.specs.ReportLines.{report_of}
 use Rattle.squall_cli_words.specs.BoardText.{board_text}
 use Rattle.squall_cli_words.specs.RouteText.{route_text, leg_lines}
 use Rattle.squall_protocol.specs.declared.event.Event.{Event}
-use Rattle.squall_protocol.specs.declared.answer.Answer.{Answer}
-use Rattle.squall_protocol.specs.Worlds.{WorldValue, most_routers, first_parts, start}
-use Rattle.squall_protocol.specs.Steps.{Step}
+use Rattle.squall_protocol.specs.declared.event.Event.TheVariants.{Serve}
+use Rattle.squall_protocol.specs.Worlds.{most_routers, first_parts, start}
+use Rattle.squall_rows.specs.RowSteps.{Act, Plain, Ask, Outcome, Answered, Ran}
+use Rattle.squall_store.specs.declared.command.Command.{Command}
+use Rattle.squall_store.specs.declared.command.Command.TheVariants as command
+use Rattle.squall_world_rows.specs.Seen.{BytesRow}
+use Rattle.squall_world_rows.specs.Maps.{no_rows, MapWorld, MapStep}
 use Rattle.squall_cli_events.specs.declared.events.Unfit.{Unfit}
 use Rattle.squall_cli_events.specs.declared.events.Unfit.TheVariants.{OverLimit, NoPlan as no_plan}
 use Rattle.squall_cli_events.specs.EventLines.{event_of}
 use Rattle.squall_cli_events.specs.AnswerText.{answer_line}
+use Rattle.squall_cli_events.specs.RowLines.{CommandLine, Put, Get, Del, row_answer}
 use Rattle.squall_cli_scenario.specs.State.{StageState, NoPlan, OldPlan, BothPlans, InWorld, ScenarioState, has_world}
-use Rattle.squall_cli_scenario.specs.Requests.{Request, Skip, Old, New, Report, Issued, Route, Legs, Board, Hear, Frame, World, Happen, Bad, request_of}
+use Rattle.squall_cli_scenario.specs.Requests.{Request, Skip, Old, New, Report, Issued, Route, Legs, Board, Hear, Frame, World, Happen, Row, Bad, request_of}
 use Rattle.squall_cli_scenario.specs.Frames.{text_of_heard, after_bodies, frame_text}
 use Rattle.squall_cli_scenario.specs.LegText.{legs_of_span}
 
--- What comes of a line. It is its answer and the scenario after it, or an event of the world, or why the line is bad. The answer to an
--- event is one that the world may give to it.
+-- What comes of a line. It is its answer and the scenario after it, or an act in the world, which is an event or a command on a row, or
+-- why the line is bad. The answer to an act is one that the world may give to it.
 pub data Reply : Type 0 where
   Goes : List ℕ → ScenarioState → Reply
-  Happens : WorldValue → Event → ScenarioState → Reply
+  Happens : MapWorld → Act Command → ScenarioState → Reply
   Ends : Reason → Reply
 
 abbrev pub at_stage : ScenarioState → StageState → ScenarioState
@@ -162,9 +168,13 @@ frame_reply s (InWorld w) = Ends Order
 abbrev pub world_text : List ℕ → ℕ → List ℕ
 world_text parts routers = codes "world " ++ (decimal (length parts) ++ (codes " " ++ (decimal routers ++ codes "\n")))
 
+-- the world as it begins. No key has a row
+abbrev pub first_world : List PlanRange → List PlanRange → ℕ → MapWorld
+first_world old new routers = record { world = start old new routers; map = no_rows }
+
 -- world R: a world of the course with R routers, if it may have as many
 abbrev pub world_of : ScenarioState → List PlanRange → List PlanRange → ℕ → Reply
-world_of s old new routers = Goes (world_text (first_parts old new) routers) (record s { stage = InWorld (start old new routers); board = empty_board })
+world_of s old new routers = Goes (world_text (first_parts old new) routers) (record s { stage = InWorld (first_world old new routers); board = empty_board })
 
 abbrev pub world_reply : ScenarioState → StageState → ℕ → Reply
 world_reply s NoPlan routers = Ends Order
@@ -173,8 +183,8 @@ world_reply s (BothPlans old new) routers = limit_where (nat_lt most_routers rou
 world_reply s (InWorld w) routers = Ends Order
 
 -- an event of the world, if the line is one; else why it is none
-abbrev pub event_reply : ScenarioState → WorldValue → Result Event Unfit → Reply
-event_reply s w (Ok event) = Happens w event s
+abbrev pub event_reply : ScenarioState → MapWorld → Result Event Unfit → Reply
+event_reply s w (Ok event) = Happens w (Plain event) s
 event_reply s w (Err OverLimit) = Ends Limit
 event_reply s w (Err (no_plan fault)) = Ends (Plan fault)
 
@@ -183,6 +193,19 @@ happen_reply s NoPlan event = Ends Order
 happen_reply s (OldPlan old) event = Ends Order
 happen_reply s (BothPlans old new) event = Ends Order
 happen_reply s (InWorld w) event = event_reply s w event
+
+-- the command on a row that a line writes, whose row is then that of the text
+abbrev pub command_of : CommandLine → Command
+command_of (Put text) = command.Put text
+command_of Get = command.Get
+command_of Del = command.Delete
+
+-- put P K TEXT, get P K, del P K: the partition is asked for the command, with no move followed, if its number lies within its limit
+abbrev pub ask_reply : ScenarioState → StageState → ℕ → ℕ → Command → Reply
+ask_reply s NoPlan part key command = Ends Order
+ask_reply s (OldPlan old) part key command = Ends Order
+ask_reply s (BothPlans old new) part key command = Ends Order
+ask_reply s (InWorld w) part key command = limit_where (nat_le part_limit part) (Happens w (Ask part key 0 command) s)
 
 -- what a request brings about
 abbrev pub reply_to : ScenarioState → Request → Reply
@@ -198,6 +221,7 @@ reply_to s (Hear digits) = hear_reply s (decode_of digits)
 reply_to s Frame = frame_reply s s.stage
 reply_to s (World routers) = world_reply s s.stage routers
 reply_to s (Happen line) = happen_reply s s.stage (event_of line)
+reply_to s (Row row) = ask_reply s s.stage row.part row.key (command_of row.command)
 reply_to s (Bad reason) = Ends reason
 
 -- ---- lines
@@ -210,16 +234,23 @@ at_next_line s = record s { line = min (s.line + 1) (2 ^ 64 - 1) }
 abbrev pub reply_to_line : ScenarioState → List ℕ → Reply
 reply_to_line s line = reply_to s (request_of (has_world s.stage) line)
 
--- the world takes the event: this is the line that answers it, and this the scenario after it
-abbrev pub Happened : WorldValue → Event → ScenarioState → List ℕ → ScenarioState → Type 0
-Happened w event s text t = (answer : Answer) × (v : WorldValue) × Step w event answer v × (text ≡ answer_line event answer) × (t ≡ at_stage s (InWorld v))
+-- The line that answers an act. If a command ran, it shows the row that was there before. If it did not run, it is what answers `serve`
+abbrev pub outcome_line : Act Command → Outcome BytesRow → List ℕ
+outcome_line (Plain event) (Answered answer) = answer_line event answer
+outcome_line (Ask part key after command) (Answered answer) = answer_line (Serve part key after) answer
+outcome_line act (Ran row) = row_answer row
+outcome_line act outcome = []
+
+-- the act happens in the world with its one map: this is the line that answers it, and this the scenario after it
+abbrev pub Happened : MapWorld → Act Command → ScenarioState → List ℕ → ScenarioState → Type 0
+Happened w act s text t = (outcome : Outcome BytesRow) × (v : MapWorld) × MapStep w act outcome v × (text ≡ outcome_line act outcome) × (t ≡ at_stage s (InWorld v))
 
 -- The script is the answer to the line of that number, and then what a scenario in the state that it left may answer. Nothing follows the
 -- answer to a bad line.
 abbrev pub Follows : ℕ → Reply → (ScenarioState → Script → Type 0) → Script → Type 0
 Follows line (Goes text t) then script = (rest : Script) × then t rest × (script ≡ after (text ∷ []) rest)
-Follows line (Happens w event s) then script =
-    (text : List ℕ) × (t : ScenarioState) × (rest : Script) × Happened w event s text t × then t rest × (script ≡ after (text ∷ []) rest)
+Follows line (Happens w act s) then script =
+    (text : List ℕ) × (t : ScenarioState) × (rest : Script) × Happened w act s text t × then t rest × (script ≡ after (text ∷ []) rest)
 Follows line (Ends reason) then script = script ≡ last_word (bad_line line reason ++ codes "\n")
 
 -- it may answer these lines, each without its LF, by the script

@@ -12,11 +12,12 @@ use Rattle.squall_cli_words.specs.declared.reports.ReportWords.{ReportWords}
 use Rattle.squall_cli_words.specs.Forms.{number_first, two_bounds}
 use Rattle.squall_cli_words.specs.ReportLines.{report_line}
 use Rattle.squall_cli_events.specs.EventLines.{EventLine, event_line}
+use Rattle.squall_cli_events.specs.RowLines.{RowLine, row_line}
 
 -- What a line asks for. It asks for nothing if it has no word or is a remark. Else it asks to take the plan of a text as the old one or
 -- the new one, to take a report, or to take an issue with the plan of a text. Or it asks for a route, the legs between two bounds, the
--- board, or its frame. Or it asks to hear the bytes that a text writes. Or it asks for a world with a number of routers, or for an event
--- of the world. Or it is bad, for a reason.
+-- board, or its frame. Or it asks to hear the bytes that a text writes. Or it asks for a world with a number of routers, for an event of
+-- the world, or for a command on a row. Or it is bad, for a reason.
 pub data Request : Type 0 where
   Skip : Request
   Old : List ℕ → Request
@@ -30,6 +31,7 @@ pub data Request : Type 0 where
   Frame : Request
   World : ℕ → Request
   Happen : EventLine → Request
+  Row : RowLine → Request
   Bad : Reason → Request
 
 -- the request, if no word is left
@@ -69,10 +71,18 @@ world_line words = option_map World (option_and_then number_of (only_word words)
 abbrev pub happen_line : List ℕ → List (List ℕ) → List ℕ → Option Request
 happen_line name words text = option_map Happen (event_line name words text)
 
--- the report that the first word names, or else the event
+-- the event of a world that the first word names, or else the command on a row
+abbrev pub event_or_row : Option Request → Option RowLine → Option Request
+event_or_row (Some event) row = Some event
+event_or_row None row = option_map Row row
+
+abbrev pub act_line : List ℕ → List (List ℕ) → List ℕ → Option Request
+act_line name words text = event_or_row (happen_line name words text) (row_line name words text)
+
+-- the report that the first word names, or else what it names in a world
 abbrev pub other_line : Option ReportWords → Option Request → Option Request
-other_line (Some report) event = Some (Report report)
-other_line None event = event
+other_line (Some report) act = Some (Report report)
+other_line None act = act
 
 -- `route` takes a key, and in a world a router and a key
 abbrev pub route_by : Bool → List ℕ → List (List ℕ) → List ℕ → Option Request
@@ -80,7 +90,7 @@ route_by true name words text = happen_line name words text
 route_by false name words text = route_line words
 
 -- The request that the first word names. The words after it must have its form. But the text of `old`, `new` and `begin` is the rest of
--- the line, and so are both texts of `begin-from`. That of `issued` is the rest after its number.
+-- the line, and so are both texts of `begin-from`. That of `issued` is the rest after its number, and that of `put` the rest after its key.
 abbrev pub request_by : Bool → List ℕ → List (List ℕ) → List ℕ → Option Request
 request_by in_world name words text = if bytes_eq name (codes "old") then Some (Old text)
     else (if bytes_eq name (codes "new") then Some (New text)
@@ -91,7 +101,7 @@ request_by in_world name words text = if bytes_eq name (codes "old") then Some (
     else (if bytes_eq name (codes "hear") then hear_line words
     else (if bytes_eq name (codes "frame") then frame_line words
     else (if bytes_eq name (codes "world") then world_line words
-    else other_line (report_line name words) (happen_line name words text)))))))))
+    else other_line (report_line name words) (act_line name words text)))))))))
 
 -- a line without words, or whose first word begins with #, is skipped
 abbrev pub of_words : Bool → List (List ℕ) → List ℕ → Request

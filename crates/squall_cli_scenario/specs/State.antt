@@ -3,9 +3,10 @@ use Rattle.std.specs.Prelude.{ℕ, Bool, List, [], true, false}
 use Rattle.squall_plan.specs.declared.range.PlanRange.{PlanRange}
 use Rattle.squall_board.specs.Boards.{BoardValue, empty_board}
 use Rattle.squall_wire.specs.Hearing.{FeedValue, feed_with}
-use Rattle.squall_protocol.specs.Worlds.{WorldValue}
+use Rattle.squall_world_rows.specs.Maps.{MapWorld}
 
--- How far a scenario is, whose worlds are seen as a W. No plan is read, the old one is, both are, or a world takes events.
+-- How far a scenario is, whose worlds are seen as a W. No plan is read, the old one is, both are, or a world takes events and commands on
+-- rows.
 pub data StageOf (W : Type 0) : Type 0 where
   NoPlan : StageOf W
   OldPlan : List PlanRange → StageOf W
@@ -20,11 +21,12 @@ pub record ScenarioOf (W : Type 0) : Type 0 where
   pub board : BoardValue
   pub feed : FeedValue
 
+-- its world has one map of rows: no partition or chunk has rows here
 abbrev pub StageState : Type 0
-StageState = StageOf WorldValue
+StageState = StageOf MapWorld
 
 abbrev pub ScenarioState : Type 0
-ScenarioState = ScenarioOf WorldValue
+ScenarioState = ScenarioOf MapWorld
 
 -- a scenario before its first line
 abbrev pub at_start : ScenarioState

@@ -4,11 +4,11 @@ ghost use Rattle.std.specs.Prelude.{◌≡◌};
 ghost use Rattle.std.specs.Option.{option_map};
 ghost use Rattle.squall_cli_lines.specs.Words.{words_of, is_letter, from_first};
 ghost use Rattle.squall_cli_scenario.specs.Requests.{issued_line, route_line, route_by, legs_line, board_line, hear_line, frame_line, world_line};
-ghost use Rattle.squall_cli_scenario.specs.Requests.{other_line, happen_line, request_by, request_of};
+ghost use Rattle.squall_cli_scenario.specs.Requests.{other_line, happen_line, act_line, request_by, request_of};
 ghost use Rattle.squall_cli_words.specs.ReportLines.{report_line};
 ghost use Rattle.squall_cli_scenario.specs.Answered.{request_seen};
 
-use squall_cli_events::{EventWords, event_line};
+use squall_cli_events::{EventWords, RowWords, event_line, row_line};
 use squall_cli_lines::LONGEST_LINE;
 use squall_cli_lines::words::{after_blanks, next_word, only_word};
 use squall_cli_words::words::{no_word, number_first, two_bounds};
@@ -39,11 +39,13 @@ pub(crate) enum Command<'a> {
     World(u32),
     /// To let an event happen in the world.
     Happen(EventWords<'a>),
+    /// To do a command on a row in the world.
+    Row(RowWords<'a>),
     Bad(Reason),
 }
 
 /// `issued N JSON`
-#[tactic(auto, using(crate::proofs::LineWords::after_first_word_again))]
+#[tactic(auto, using(squall_cli_events::proofs::LineWords::after_first_word_again))]
 fn issued_line(rest: &[u8]) -> Option<Command>
     ensures { option_map request_seen result ≡ issued_line (words_of rest.now) (from_first is_letter rest.now) }
 {
@@ -109,14 +111,27 @@ fn happen_line<'a>(name: &[u8], rest: &'a [u8]) -> Option<Command<'a>>
     }
 }
 
-/// A report, or an event of a world.
+/// An event of a world, or a command on a row in it.
+fn act_line<'a>(name: &[u8], rest: &'a [u8]) -> Option<Command<'a>>
+    ensures { option_map request_seen result ≡ act_line name.now (words_of rest.now) (from_first is_letter rest.now) }
+{
+    if let Some(event) = happen_line(name, rest) {
+        return Some(event);
+    }
+    match row_line(name, rest) {
+        Some(row) => Some(Command::Row(row)),
+        None => None,
+    }
+}
+
+/// A report, or what happens in a world.
 fn other_line<'a>(name: &[u8], rest: &'a [u8]) -> Option<Command<'a>>
     ensures { option_map request_seen result ≡ other_line (report_line name.now (words_of rest.now))
-        (happen_line name.now (words_of rest.now) (from_first is_letter rest.now)) }
+        (act_line name.now (words_of rest.now) (from_first is_letter rest.now)) }
 {
     match report_line(name, rest) {
         Some(report) => Some(Command::Report(report)),
-        None => happen_line(name, rest),
+        None => act_line(name, rest),
     }
 }
 

@@ -5,7 +5,8 @@ ghost use Rattle.squall_cli_lines.specs.Script.{Script, text_of};
 ghost use Rattle.squall_cli_words.specs.Endings.{EndsInBadLine, HasNoBadLine, EndsInNoBadLine};
 ghost use Rattle.squall_cli_scenario.specs.Text.{IsScript};
 
-/// There is one script at most for any lines: to each event of a world there is one answer.
+/// There is one script at most for any lines: to each event of a world, and to each command on a row,
+/// there is one answer.
 pub fn one_script()
     ensures { (lines : List (List ℕ)) (a b : Script) → IsScript lines a → IsScript lines b → a ≡ b }
 {}

@@ -1,5 +1,5 @@
-//! Scenarios: lines that set up plans, bring reports, let events happen in a world, and ask, and what
-//! answers them.
+//! Scenarios: lines that set up plans, bring reports, let events happen in a world, put rows in it, and
+//! ask, and what answers them.
 //!
 //! Its tests are the cases of `cases/run`.
 #![tactic(auto)]
@@ -9,6 +9,7 @@ mod frames;
 pub mod laws;
 mod legs;
 mod replies;
+mod rows;
 mod scenario;
 mod worlds;
 

@@ -10,6 +10,7 @@ ghost use Rattle.squall_cli_scenario.specs.Stages.{meant};
 use crate::command::{Command, read_line};
 use crate::frames::{hear, show_frame};
 use crate::legs::show_legs;
+use crate::rows::{ask, command_of};
 use crate::scenario::{Scenario, Stage};
 use crate::worlds::{happen, make_world};
 use squall_cli_events::event_of;
@@ -163,6 +164,13 @@ fn reply(
         Command::Frame => show_frame(scenario, out),
         Command::World(routers) => make_world(scenario, routers, out),
         Command::Happen(words) => happen(scenario, event_of(*out.allocator(), words)?, out),
+        Command::Row(words) => ask(
+            scenario,
+            words.part(),
+            words.key(),
+            &command_of(*out.allocator(), &words)?,
+            out,
+        ),
         Command::Bad(reason) => Ok(Some(reason)),
     }
 }

@@ -7,7 +7,7 @@ ghost use Rattle.squall_cli_scenario.specs.Stages.{meant};
 use squall_plan::Plan;
 use squall_router::Router;
 use squall_wire::Feed;
-use squall_world::World;
+use squall_world_rows::RowWorld;
 use std::alloc::Global;
 use std::marker::Model;
 
@@ -21,15 +21,16 @@ pub(crate) enum Stage {
     /// Both plans: a router of the course from the old one to the new one, which has heard what was
     /// reported.
     Running(Router),
-    /// A world of that course, which takes events.
-    Happening(World),
+    /// A world of that course, which takes events and commands on rows.
+    Happening(RowWorld),
 }
 
 /// A scenario after some lines: what they set up, and what answers the lines to come.
 ///
 /// Contracts see the lines counted, the plans that are read or the world, the board, and the feed.
 /// The board is that of the router. Before both plans are read no line can report anything, and in
-/// a world each node has a board of its own. What the world keeps they see as a world.
+/// a world each node has a board of its own. What the world keeps they see as a world with one map of
+/// rows.
 #[derive(Drop)]
 pub struct Scenario {
     /// How many lines there were, bad and skipped ones too.
@@ -40,10 +41,10 @@ pub struct Scenario {
 }
 
 impl Model for Scenario {
-    ghost use Rattle.squall_world.specs.Nets.{NetValue};
+    ghost use Rattle.squall_world_rows.specs.Seen.{RowNetValue};
     ghost use Rattle.squall_cli_scenario.specs.State.{ScenarioOf};
 
-    ghost Value = { ScenarioOf NetValue };
+    ghost Value = { ScenarioOf RowNetValue };
 
     ghost use Rattle.squall_cli_scenario.specs.Stages.{stage_seen, board_seen, IsFirstCourse};
 

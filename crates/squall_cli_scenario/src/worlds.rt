@@ -1,10 +1,10 @@
 //! The lines that make a world, and those of its events.
 
 ghost use Rattle.std.specs.Prelude.{◌≡◌, ◌≤◌, ◌<◌, ◌↔◌, ◌++◌, IfOk, IfErr, OnOk, string_bytes};
-ghost use Rattle.squall_protocol.specs.Worlds.{most_routers, start};
+ghost use Rattle.squall_protocol.specs.Worlds.{most_routers};
 ghost use Rattle.squall_world.specs.declared.steps.WorldFault.TheVariants.{TooManyRouters};
-ghost use Rattle.squall_world.specs.Views.{view};
-ghost use Rattle.squall_cli_scenario.specs.Replies.{world_text, world_reply, happen_reply};
+ghost use Rattle.squall_world_rows.specs.Maps.{mapped};
+ghost use Rattle.squall_cli_scenario.specs.Replies.{world_text, first_world, world_reply, happen_reply};
 ghost use Rattle.squall_cli_scenario.specs.Answered.{Answers};
 ghost use Rattle.squall_cli_scenario.specs.Stages.{meant};
 
@@ -12,22 +12,22 @@ use crate::scenario::{Scenario, Stage};
 use squall_cli_events::{Unfit, add_answer};
 use squall_cli_words::Reason;
 use squall_router::Router;
-use squall_world::{Event, World, WorldFault};
+use squall_world_rows::{Event, RowWorld, WorldFault};
 use std::alloc::{AllocError, Global};
 
 /// The world of the router's first course, with this many routers; or why there is none.
-fn world_of(alloc: Global, router: &Router, routers: u32) -> Result<World, WorldFault>
+fn world_of(alloc: Global, router: &Router, routers: u32) -> Result<RowWorld, WorldFault>
     requires { router.now.first.number ≡ 1 }
-    ensures ok { IfOk result (λ w. view w ≡ start router.now.first.old router.now.first.new routers) }
+    ensures ok { IfOk result (λ w. mapped w ≡ first_world router.now.first.old router.now.first.new routers) }
     ensures few { OnOk result (routers ≤ most_routers) }
     ensures err { IfErr result (λ e. (e ≡ TooManyRouters) ↔ (most_routers < routers)) }
 {
-    World::over(alloc, router.first(), routers)
+    RowWorld::over(alloc, router.first(), routers)
 }
 
 /// Adds how many partitions and routers there are.
-fn add_world(world: &World, routers: u32, out: &mut String) -> Result<(), AllocError>
-    ensures { OnOk result (string_bytes out.new ≡ string_bytes out.old ++ world_text (view world.now).parts routers) }
+fn add_world(world: &RowWorld, routers: u32, out: &mut String) -> Result<(), AllocError>
+    ensures { OnOk result (string_bytes out.new ≡ string_bytes out.old ++ world_text (mapped world.now).world.parts routers) }
 {
     let parts = world.parts();
     write!(out, "world {parts} {routers}\n")

@@ -10,4 +10,4 @@ over-requires c = ap (λ (k : Change). k.number) c.first.ensures ∙ c.requires
 pub returns-clause-ok : goal.returns-clause-ok
 returns-clause-ok c =
     start_between c.over.result c.args.router.now.first.old c.args.router.now.first.new (arc_value c.first.result.now).old (arc_value c.first.result.now).new c.args.routers
-    (ap (λ (k : Change). k.old) c.first.ensures) (ap (λ (k : Change). k.new) c.first.ensures) c.over.ensures.ok
+    (ap (λ (k : Change). k.old) c.first.ensures) (ap (λ (k : Change). k.new) c.first.ensures) c.over.ensures.ok c.over.ensures.empty
