@@ -77,7 +77,10 @@ Events of a world. NODE is l, the leader; p3, partition 3; or r0, router 0:
   send NODE REPORT    the node sends one report, in the words of loaded, done or opened
   deliver I NODE      message I comes to the node
   route R K           asks to which partition router R sends key K
-  serve P K [N]       asks what partition P replies for key K after move N";
+  serve P K [N]       asks what partition P replies for key K after move N
+  put P K TEXT        puts the row TEXT under key K at partition P, and shows the row before
+  get P K             asks partition P for the row of key K
+  del P K             removes the row of key K at partition P, and shows the row before";
 
 const RACE: &str = "Lines of a race, which is run once all of them are read:
   old JSON    the old plan, first: {\"plan\":[{\"part\":1,\"from\":[0,0],\"to\":\"end\"}]}
