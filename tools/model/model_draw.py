@@ -32,7 +32,8 @@ class Trial:
         told = [answer for _, answers in lines for answer in answers]
         out = "".join(f"{it}\n" for it in told)
         status = int(any(it.startswith("refused") for it in told))
-        return Trial(words, text.encode(), out.encode(), status=status, files=files or {}, lines=lines)
+        data = text.encode(errors="surrogateescape")
+        return Trial(words, data, out.encode(), status=status, files=files or {}, lines=lines)
 
 
 class Draw(random.Random):

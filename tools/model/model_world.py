@@ -1,10 +1,12 @@
 """Worlds of random events, for tools/model."""
 from model_draw import Lines, Trial
-from plain import PLACES, Facts, bound, spans_of
+from plain import PLACES, Facts, bound, place_of, spans_of
 from plain_world import Refused, World
 
 EVENTS = 5000
 KEPT = 32
+# What a row begins with: among them a remark, blanks inside, and a byte that is no UTF-8.
+TEXTS = ["row ", "#", "two  words\t", "{}", "bad line 3: word", "é", "\udcff"]
 
 
 class Events:
@@ -44,7 +46,7 @@ class Events:
         """Any event."""
         world, draw = self.world, self.draw
         part, place, most = self.part(), draw.randrange(PLACES), draw.choice([0, 0, 1, 3, 18446744073709551615])
-        kind = draw.randrange(9)
+        kind = draw.randrange(11)
         if not draw.randrange(200):
             self.ask(f"close {part}", world.close, part)
         elif kind == 0:
@@ -66,8 +68,27 @@ class Events:
             self.follow(draw.randrange(5), place)
             if self.asked:
                 self.next_of(*draw.choice(self.asked))
-        else:
+        elif kind == 8:
             self.ask_for(part, place, draw.choice([0, 0, draw.randrange(8)]))
+        else:
+            self.on_row(self.holder(place) if draw.randrange(2) else part, draw.key(place))
+
+    def holder(self, place):
+        """The partition that holds the key, or any while the key is on its way."""
+        return next((part for part, held in self.world.held.items() if place in held), 1)
+
+    def on_row(self, part, key):
+        """A command on the row of the key."""
+        world, draw = self.world, self.draw
+        kind = draw.choice(["put", "put", "get", "get", "get", "del"])
+        if kind == "put":
+            text = draw.choice(TEXTS) + str(len(self.lines))
+            blanks = draw.choice([" ", "  ", "\t"])
+            self.ask(f"put {part} {key}{blanks}{text}", world.put, part, key, text.encode(errors="surrogateescape"))
+        elif kind == "get":
+            self.ask(f"get {part} {key}", world.get, part, key)
+        else:
+            self.ask(f"del {part} {key}", world.delete, part, key)
 
     def ask_for(self, part, place, after):
         """Asks a partition for a key: the kind of its reply, and what it names."""
@@ -166,6 +187,8 @@ class Events:
         for part in parts * 3:
             most = draw.randint(1, 9)
             self.ask(f"give {part} {most}", world.give, part, most)
+        for key in [draw.key(draw.randrange(PLACES)) for _ in range(4)]:
+            self.on_row(self.holder(place_of(key)), key)
         for chunk in range(max(0, len(world.chunks) - 24), len(world.chunks)):
             self.ask(f"load {chunk}", world.load, chunk)
         for part in parts:

@@ -18,6 +18,12 @@ def bound(place):
     return "end" if place == PLACES else f"0:{place}"
 
 
+def place_of(key):
+    """The place of a key: the last one of all keys that have none of their own."""
+    root, second = map(int, key.split(":"))
+    return min(second, PLACES - 1) if root == 0 else PLACES - 1
+
+
 def span(lo, hi):
     return f"[{bound(lo)},{bound(hi)})"
 

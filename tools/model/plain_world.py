@@ -1,9 +1,17 @@
 """Worlds as docs/SCENARIOS.md says, beside which tools/model runs those of the program: what each event answers."""
-from plain import PLACES, Course, Facts, spans_of, span
+from plain import PLACES, Course, Facts, place_of, span, spans_of
 
 
 class Refused(Exception):
     """Why an event does nothing."""
+
+
+def shown(row):
+    """The line of a row, whose bytes are in hex if they are no UTF-8."""
+    try:
+        return f"row {row.decode()}"
+    except UnicodeDecodeError:
+        return f"bytes {row.hex()}"
 
 
 class World:
@@ -15,6 +23,8 @@ class World:
         self.held, self.given, self.loaded, self.closed = {}, {}, {}, set()
         self.facts = {"l": Facts(), **{f"r{it}": Facts() for it in range(routers)}}
         self.messages, self.chunks = [], []
+        # The rows of each partition, and the copies that each chunk took along, by their keys; and the one map that they are.
+        self.rows, self.copies, self.map = {}, [], {}
         self.add_parts(old, new)
         for place, part in enumerate(old):
             self.held[part].add(place)
@@ -23,6 +33,7 @@ class World:
     def add_parts(self, *plans):
         for part in sorted({part for plan in plans for part in plan}):
             self.held.setdefault(part, set())
+            self.rows.setdefault(part, {})
             self.facts.setdefault(f"p{part}", Facts())
 
     def node(self, name):
@@ -116,6 +127,7 @@ class World:
         self.held[part] -= set(range(lo, hi))
         self.given.setdefault((course.number, part), set()).update(range(lo, hi))
         self.chunks.append((course.number, sub, part, course.new[lo], lo, hi))
+        self.copies.append({key: row for key, row in self.rows[part].items() if place_of(key) in range(lo, hi)})
         return f"chunk {len(self.chunks) - 1} sub {sub} {part} to {course.new[lo]} {span(lo, hi)}"
 
     def give(self, part, most):
@@ -157,10 +169,16 @@ class World:
         missing = self.in_flight(self.chunks[index])
         if not missing:
             return "again"
+        self.install(index, dest, missing)
         self.held[dest] |= missing
         self.loaded.setdefault((number, dest), set()).update(missing)
         facts.load((number, sub, dest), range(lo, hi))
         return f"loaded {dest} {span(lo, hi)}"
+
+    def install(self, index, dest, places):
+        """The destination has the chunk's rows of these places, and no others there."""
+        rows = {key: row for key, row in self.rows[dest].items() if place_of(key) not in places}
+        self.rows[dest] = {**rows, **{key: row for key, row in self.copies[index].items() if place_of(key) in places}}
 
     def finish(self, part, sub):
         course = self.newest(f"p{part}")
@@ -218,6 +236,36 @@ class World:
             return "behind", ()
         return "elsewhere", (self.courses[max(known)].old[place],)
 
+    # ---- rows
+
+    def on_row(self, part, key, change):
+        """Runs a command on the row of the key, if the partition holds it: the row as it was, or what it replies."""
+        word, told = self.serve(part, place_of(key), 0)
+        if word != "held":
+            return " ".join(map(str, [word, *told]))
+        row = self.rows[part].pop(key, None)
+        after = change(row)
+        for rows in (self.rows[part], self.map):
+            rows.pop(key, None)
+            if after is not None:
+                rows[key] = after
+        return "row" if row is None else shown(row)
+
+    def put(self, part, key, row):
+        return self.on_row(part, key, lambda _: row)
+
+    def get(self, part, key):
+        return self.on_row(part, key, lambda row: row)
+
+    def delete(self, part, key):
+        return self.on_row(part, key, lambda _: None)
+
+    def carried(self):
+        """The row of each key at the partition that holds it, or in the chunk that has it on its way."""
+        held = [(rows, self.held[part]) for part, rows in self.rows.items()]
+        flying = [(rows, self.in_flight(chunk)) for rows, chunk in zip(self.copies, self.chunks)]
+        return {key: row for rows, places in held + flying for key, row in rows.items() if place_of(key) in places}
+
     # ---- what is promised
 
     def broken(self):
@@ -228,6 +276,8 @@ class World:
         carried = sorted(place for keys in [*self.held.values(), *(keys for _, keys in flying)] for place in keys)
         if carried != list(range(PLACES)):
             return "each key has one carrier"
+        if self.carried() != self.map:
+            return "all partitions and chunks together are one map"
         moving = [chunk for chunk, keys in flying if keys]
         if len({chunk[2] for chunk in moving}) != len({(chunk[2], chunk[3]) for chunk in moving}):
             return "a source feeds one destination at a time"
