@@ -3,7 +3,9 @@
 ghost use Rattle.std.specs.Prelude.{◌≡◌, ◌≤◌, ◌<◌, ◌↔◌, ◌++◌, IfOk, IfErr, OnOk, string_bytes};
 ghost use Rattle.squall_protocol.specs.Worlds.{most_routers};
 ghost use Rattle.squall_world.specs.declared.steps.WorldFault.TheVariants.{TooManyRouters};
-ghost use Rattle.squall_world_rows.specs.Maps.{mapped};
+ghost use Rattle.squall_rows.specs.RowSteps.{Plain, Answered};
+ghost use Rattle.squall_world_rows.specs.Maps.{MapStep, mapped};
+ghost use Rattle.squall_cli_events.specs.AnswerText.{answer_line};
 ghost use Rattle.squall_cli_scenario.specs.Replies.{world_text, first_world, world_reply, happen_reply};
 ghost use Rattle.squall_cli_scenario.specs.Answered.{Answers};
 ghost use Rattle.squall_cli_scenario.specs.Stages.{meant};
@@ -12,7 +14,7 @@ use crate::scenario::{Scenario, Stage};
 use squall_cli_events::{Unfit, add_answer};
 use squall_cli_words::Reason;
 use squall_router::Router;
-use squall_world_rows::{Event, RowWorld, WorldFault};
+use squall_world_rows::{Answer, Event, RowWorld, WorldFault};
 use std::alloc::{AllocError, Global};
 
 /// The world of the router's first course, with this many routers; or why there is none.
@@ -55,6 +57,17 @@ pub(crate) fn make_world(
     Ok(None)
 }
 
+/// Lets the event happen in the world, and adds the line that answers it. The result is what was
+/// answered.
+fn step_world(world: &mut RowWorld, event: &Event, out: &mut String) -> Result<Answer, AllocError>
+    ensures step { IfOk result (λ answer. MapStep (mapped world.old) (Plain event.now) (Answered answer) (mapped world.new)) }
+    ensures text { IfOk result (λ answer. string_bytes out.new ≡ string_bytes out.old ++ answer_line event.now answer) }
+{
+    let answer = world.step(event)?;
+    add_answer(event, &answer, out)?;
+    Ok(answer)
+}
+
 /// Lets the event happen, once there is a world, or says why the line is no event.
 pub(crate) fn happen(
     scenario: &mut Scenario,
@@ -72,7 +85,6 @@ pub(crate) fn happen(
         Err(Unfit::OverLimit) => return Ok(Some(Reason::Limit)),
         Err(Unfit::NoPlan(fault)) => return Ok(Some(Reason::Plan(fault))),
     };
-    let answer = world.step(&event)?;
-    add_answer(&event, &answer, out)?;
+    let _answer = step_world(world, &event, out)?;
     Ok(None)
 }

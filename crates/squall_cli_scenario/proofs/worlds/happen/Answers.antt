@@ -8,5 +8,6 @@ use Rattle.squall_cli_scenario.proofs.worlds.happen.Goals as goal
 pub returns : goal.returns
 returns c =
     let inside = c.scenario.inside in
-    event_happened inside.line (stage_seen inside.stage) (board_seen inside.stage) inside.feed c.args.scenario.now (mapped c.in-Happening.world) (mapped c.step.new.self) c.args.event c.in-Ok.event c.in_ok-answer.answer (string_bytes c.args.out.now) (string_bytes c.add_answer.new.out)
-    c.scenario.view_is (ap board_seen c.in-Happening.is) (ap (λ g. stage_meant (stage_seen g)) c.in-Happening.is) c.in-Ok.is c.in_ok-answer.ensures.map c.in_ok-add_answer.ensures
+    let asked = c.in_ok-_answer in
+    event_happened inside.line (stage_seen inside.stage) (board_seen inside.stage) inside.feed c.args.scenario.now (mapped c.in-Happening.world) (mapped c.step_world.new.world) c.args.event c.in-Ok.event asked._answer (string_bytes c.args.out.now) (string_bytes c.step_world.new.out)
+    c.scenario.view_is (ap board_seen c.in-Happening.is) (ap (λ g. stage_meant (stage_seen g)) c.in-Happening.is) c.in-Ok.is asked.ensures.step asked.ensures.text
