@@ -6,3 +6,4 @@ pub mod RowTexts
 pub mod Refusals
 pub mod OneScript
 pub mod Made
+pub mod GotAsPut
