@@ -3,20 +3,34 @@
 use crate::network::Time;
 use squall::Chunk;
 use std::cmp::Ordering;
+use std::ops::Range;
 use std::rc::Rc;
+
+/// A frame for routers.
+pub struct Frame {
+    pub bytes: Vec<u8>,
+    /// The cells that a router may send elsewhere once it has heard it.
+    pub cells: Range<usize>,
+}
 
 /// What happens.
 pub enum Event {
-    /// The course begins.
+    /// The first course begins.
     Begin,
+    /// A partition hears that a course begins.
+    Tell(u32, Rc<Frame>),
+    /// A partition hears that it is to close its course.
+    Close(u32),
+    /// A partition has answered the leader.
+    Answered,
     /// A source gives its next chunk.
     Give(u32),
     /// A chunk has arrived with its rows.
     Load(Chunk),
     /// A report has arrived at the server of a site.
-    Pass(usize, Rc<[u8]>),
+    Pass(usize, Rc<Frame>),
     /// A report or a repair has arrived at a router.
-    Hear(u32, Rc<[u8]>),
+    Hear(u32, Rc<Frame>),
     /// A router shows its digest.
     Show(u32),
     /// The digest of the second one has arrived at the first one.
