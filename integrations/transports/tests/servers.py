@@ -199,7 +199,8 @@ class Postgres(Server):
     def _answers(self) -> bool:
         ready = find("pg_isready")
         assert ready is not None
-        words = [ready, "-q", "-h", "127.0.0.1", "-p", str(self.port)]
+        # Without -t it takes a server for one that does not answer after three seconds.
+        words = [ready, "-q", "-h", "127.0.0.1", "-p", str(self.port), "-t", f"{_PATIENCE:.0f}"]
         return subprocess.run(words, check=False).returncode == 0
 
 
