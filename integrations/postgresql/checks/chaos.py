@@ -16,6 +16,8 @@ from .deploy import Deployment, Server, write_plans
 
 PROGRAM = Path(__file__).resolve().parent.parent / "squall-postgresql"
 _WITH_US = ["setpriv", "--pdeathsig", "KILL", sys.executable]
+#: How long a mover may be without any progress, in seconds: the machine may be busy with much else.
+_PATIENCE = 600
 
 
 class Courses:
@@ -27,7 +29,7 @@ class Courses:
         self._dice = dice
         self._words = [f"--part={part}={url}" for part, url in deployment.addresses.items()]
         self._words += ["--bus", deployment.bus, "--first", self.plans[0]]
-        self._words += ["--chunk", str(chunk), "--patience", "120"]
+        self._words += ["--chunk", str(chunk), "--patience", str(_PATIENCE)]
         #: The number of the last course that has ended, and how many movers were killed.
         self.number = 1
         self.kills = 0
@@ -54,7 +56,7 @@ class Courses:
     def turn(self, kills: int) -> None:
         """One whole course, of which at most so many movers are killed."""
         number = self.number + 1
-        while not self.run(number, self._dice.uniform(0.3, 2.0) if kills > 0 else 300.0):
+        while not self.run(number, self._dice.uniform(0.3, 2.0) if kills > 0 else 1200.0):
             kills -= 1
         self.number = number
 
@@ -79,6 +81,10 @@ class CoursesThread(threading.Thread):
         except BaseException as error:  # pylint: disable=broad-except
             self._fault = error
 
+    def has_failed(self) -> bool:
+        """Whether a mover has failed: the others would go on without any course."""
+        return self._fault is not None
+
     def end(self) -> None:
         """Waits for the last course. Raises the fault of a mover."""
         self._is_over = True
@@ -87,11 +93,13 @@ class CoursesThread(threading.Thread):
             raise self._fault
 
 
-def kill(server: Server, dice: random.Random) -> None:
-    """Kills a server, and starts it again.
+def kill(server: Server, dice: random.Random) -> float:
+    """Kills a server, and starts it again: for how many seconds it was away.
 
     It ends with the thread that has started it, so that has to be the one of the tests.
     """
+    began = time.monotonic()
     server.end()
     time.sleep(dice.uniform(0, 0.3))
     server.start()
+    return time.monotonic() - began

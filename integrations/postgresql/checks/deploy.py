@@ -16,7 +16,10 @@ from squall import END, Course, Plan, Rank
 from squall_bus import open_bus
 from squall_bus.bus import KeepingBus
 from squall_postgresql import Job, Mover, Pace, Partition
+from squall_postgresql.partition import OPTIONS
 
+# The machine may be busy with much else.
+OPTIONS["connect_timeout"] = 60
 #: What the tables of the tests are.
 TABLES = """
 create table public.notes (

@@ -72,21 +72,26 @@ class ClientTest(PartitionsTest):
         self.write(client, KEY, "a")
         self.begin()
         given = self.give()
-        timer = threading.Timer(0.3, self.load, [given])
-        timer.start()
+
+        def load_late() -> None:
+            until("the client has asked again", lambda: client.refusals > 2)
+            self.load(given)
+
+        thread = threading.Thread(target=load_late)
+        thread.start()
         self.assertEqual(self.write(client, KEY, "b"), 2)
-        timer.join()
-        self.assertGreater(client.refusals, 2)
+        thread.join()
 
     def test_who_waits_too_long_is_told(self) -> None:
         client = self.client(patience=0.3)
         self.begin()
         self.give()
-        with self.assertRaisesRegex(AwayError, "key 10:1: partition 3: PENDING 1"):
+        # On a busy machine the time may be over before the second partition is asked.
+        with self.assertRaisesRegex(AwayError, "key 10:1: partition (3: PENDING 1|1: MOVED 3 2)$"):
             self.read(client, KEY)
 
     def test_a_transaction_has_several_keys(self) -> None:
-        client = self.client(patience=0.5)
+        client = self.client()
 
         def act(cursor: Any) -> int:
             for key in (KEY, NEAR):
@@ -99,7 +104,7 @@ class ClientTest(PartitionsTest):
         self.move(2)
         self.assertEqual(client.transact([KEY, NEAR], act), 2)
         with self.assertRaisesRegex(AwayError, "MOVED|COURSE|ELSEWHERE"):
-            client.transact([KEY, FAR], act)
+            self.client(patience=0.5).transact([KEY, FAR], act)
         self.assertEqual(self.read(client, KEY), [("a", 2)])
 
     def test_faults_of_a_statement_are_the_program_s(self) -> None:

@@ -25,6 +25,10 @@ class BusyError(LostError):
     """Something at the server is in the way, and a step was not done."""
 
 
+class StoppedError(LostError):
+    """A source has stopped because another one has, which knows why."""
+
+
 class StepError(Exception):
     """A partition refuses a step of a course, in the words of PROTOCOL.md."""
 

@@ -6,7 +6,7 @@ from typing import Callable, List
 
 from squall import Move, Rank, Span, frame
 
-from .errors import LostError
+from .errors import StoppedError
 from .pace import Pace, Progress
 from .partition import Partition, Step
 
@@ -51,7 +51,7 @@ class Feeder:
             if loaded.edge >= move.hi:
                 return
             if self._job.is_over:
-                raise LostError("another source has stopped")
+                raise StoppedError("another source has stopped")
             if given.edge <= loaded.edge:
                 given = self._give(move)
             if given.edge > loaded.edge:

@@ -10,7 +10,7 @@ from typing import Callable, Dict, Iterable, List, Mapping, Optional, Type
 
 from squall import Course, Move, frame
 
-from .errors import LostError, StepError
+from .errors import LostError, StepError, StoppedError
 from .feeder import Feeder, Job
 from .partition import Partition
 
@@ -36,9 +36,9 @@ class Mover:
         for part in sorted(named.difference(self._addresses)):
             raise ValueError(f"a plan names partition {part}, which has no address")
 
-    def init(self) -> None:
-        """Begins course 1, which moves nothing. Raises `LostError` and `StepError`."""
-        self._begin_all(True)
+    def init(self, patience: float = 60.0) -> None:
+        """Begins course 1, which moves nothing. It begins again, and raises, as `run` does."""
+        self._patiently(partial(self._begin_all, True), patience)
 
     def run(self, patience: float = 60.0) -> None:
         """Does the whole course, from wherever an earlier run has stopped.
@@ -46,10 +46,13 @@ class Mover:
         If a connection is lost, it begins again by itself, unless there was no progress for so many
         seconds. Raises `LostError` then, and `StepError` if a partition refuses a step.
         """
+        self._patiently(self._attempt, patience)
+
+    def _patiently(self, act: Callable[[], None], patience: float) -> None:
         until, chunks, said = time.monotonic() + patience, -1, ""
         while True:
             try:
-                self._attempt()
+                act()
                 return
             except LostError as error:
                 if chunks != self._job.progress.chunks:
@@ -121,8 +124,10 @@ class Mover:
         for thread in threads:
             thread.join()
         faults = [it.fault for it in threads if it.fault is not None]
-        # One that does not pass comes first.
-        for fault in sorted(faults, key=lambda it: isinstance(it, LostError)):
+        # One that does not pass comes first, and last are those that have stopped because of another one.
+        for fault in sorted(
+            faults, key=lambda it: [isinstance(it, LostError), isinstance(it, StoppedError)]
+        ):
             raise fault
 
     def _feed_one(self, moves: List[Move]) -> None:
