@@ -1,4 +1,4 @@
-"""What the guard costs: `python3 -m checks.bench` prints the table of README.md."""
+"""What the guard costs: `python3 -m checks.bench` prints a table of it, on a machine at rest."""
 
 from __future__ import annotations
 
