@@ -124,7 +124,7 @@ class Mover:
         for thread in threads:
             thread.join()
         faults = [it.fault for it in threads if it.fault is not None]
-        # One that does not pass comes first, and last are those that have stopped because of another one.
+        # One that does not pass comes first, and last those that stopped because of another one.
         for fault in sorted(
             faults, key=lambda it: [isinstance(it, LostError), isinstance(it, StoppedError)]
         ):
