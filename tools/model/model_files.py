@@ -154,7 +154,8 @@ def status(draw):
     """How far the newest change is, by some files."""
     drawn = Drawn(draw)
     words = [*drawn.plans(), *drawn.some_files(0)]
-    return drawn.trial("status", drawn.optional(words, *[["--waiting"]] * draw.randrange(2), *drawn.form()))
+    flags = [[it] for it in ("--waiting", "--exit-status") if draw.randrange(2)]
+    return drawn.trial("status", drawn.optional(words, *flags, *(drawn.boards() if len(words) == 2 else []), *drawn.form()))
 
 
 def watch(draw):

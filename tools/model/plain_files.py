@@ -4,6 +4,8 @@ from plain_frames import MOST, TOP, Fault, decoded, digest_frame
 from plain_json import object_of
 
 NO_REPORT = "error: the words are no report: see squall help report"
+# They write frames, so that their refusals go to standard error.
+WRITE_BYTES = ("report", "merge", "beyond", "digest", "repair")
 INPUT_TAKEN = "error: standard input is read as it comes, so that no file can be -"
 
 
@@ -109,9 +111,19 @@ def legs(words, files, boards):
     return [f"leg {span(low, high)} {part}" for low, high, part in cut if low < high]
 
 
-def status(words, files, is_waiting):
-    change, board = routed(words, files, words[2:])
-    return board.status(change, is_waiting)
+class Judged(list):
+    """Lines, and the status with which they come."""
+
+    status = 0
+
+
+def status(words, files, boards, flags):
+    """The lines of the status. If it is asked for, status 5 says that a move is not complete."""
+    change, board = routed(words, files, [*words[2:], *boards])
+    lines = Judged(board.status(change, "--waiting" in flags))
+    if "--exit-status" in flags and any(it.startswith("move ") for it in board.status(change, True)):
+        lines.status = 5
+    return lines
 
 
 def watch(words, files, in_form):
@@ -176,7 +188,7 @@ def found(command, words, files, boards, flags):
     return {
         "report": lambda: report(words, files),
         "board": lambda: files.board(*words).lines(),
-        "status": lambda: status(words, files, "--waiting" in flags),
+        "status": lambda: status(words, files, boards, flags),
         "watch": lambda: watch(words, files, as_json if "--json" in flags else as_lines),
         "route": lambda: route(words, files, boards),
         "legs": lambda: legs(words, files, boards),
@@ -192,10 +204,13 @@ def answer(words, files):
     plain, boards, flags = parsed(words[1:])
     in_form = as_json if "--json" in flags and words[0] != "watch" else as_lines
     try:
-        told = in_form(words[0], list(found(words[0], plain, files, boards, flags)))
+        shown = found(words[0], plain, files, boards, flags)
+        told = in_form(words[0], list(shown))
     except Refused as why:
         line = "".join(f"{it}\n" for it in in_form(words[0], [why.line])).encode()
+        if why.status == 1 and words[0] in WRITE_BYTES:
+            return b"", b"squall: " + line, 1
         return (b"", line, why.status) if why.status == 2 else (line, b"", why.status)
     if "--quiet" in flags:
         return b"", b"", int(bool(told))
-    return b"".join(it if isinstance(it, bytes) else f"{it}\n".encode() for it in told), b"", 0
+    return b"".join(it if isinstance(it, bytes) else f"{it}\n".encode() for it in told), b"", getattr(shown, "status", 0)

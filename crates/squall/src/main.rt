@@ -2,7 +2,7 @@
 //!
 //! Its status is 0 if all went well, and 1 if the input was refused. It is 2 if the words ask for
 //! nothing that there is, 3 if a device failed and 4 if an allocation failed. Standard error says
-//! what stopped it.
+//! what stopped it. `squall status --exit-status` ends with 5 if the course is not complete.
 #![tactic(auto)]
 
 ghost use Rattle.std.specs.Prelude.{◌≡◌, ◌≢◌, IfErr, IfOk, map, string_bytes};

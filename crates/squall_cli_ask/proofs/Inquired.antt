@@ -1,10 +1,8 @@
 -- What is done for the words of an inquiry.
-use Rattle.std.proofs.Common.{◌≡◌, ◌≢◌, ◌⊎◌, inl, inr, ℕ, ◌≤◌, List, [], Bool, true, false, Option, Result, Ok, Err, sym, ◌∙◌, arith}
+use Rattle.std.proofs.Common.{◌≡◌, ◌≢◌, ◌⊎◌, inl, inr, ℕ, ◌≤◌, List, [], Bool, true, false, Option, Err, sym, ◌∙◌, arith}
 use Rattle.std.proofs.KnownBytes.{Appends-nil, Consumes-nil}
 use Rattle.std.proofs.lemmas.Bool.{false≢true}
 use Rattle.std.specs.Prelude.{◌↔◌}
-use Rattle.squall_cli_lines.specs.declared.Ended.{Ended}
-use Rattle.squall_cli_lines.specs.declared.Ended.TheVariants.{Fine, Refused}
 use Rattle.squall_cli_lines.specs.declared.RunFault.{RunFault}
 use Rattle.squall_cli_lines.specs.declared.RunFault.TheVariants.{Read, Write, NoMemory}
 use Rattle.squall_cli_command.specs.declared.inquiry.Inquiry.{Inquiry}
@@ -31,12 +29,6 @@ high_fault NoMemory status e = omega arith
 
 pub unread_high : (status : ℕ) → IsUnread status → 3 ≤ status
 unread_high status u = high_fault u.0 status u.2
-
--- no outcome has the status of bad words
-pub no_bad_words : (outcome : Result Ended RunFault) (status : ℕ) → status ≡ status_of outcome → status ≢ 2
-no_bad_words (Ok Fine) status e bad = omega arith
-no_bad_words (Ok Refused) status e bad = omega arith
-no_bad_words (Err fault) status e bad = let high = high_fault fault status e in omega arith
 
 -- ---- the words
 

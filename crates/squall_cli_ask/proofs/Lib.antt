@@ -6,3 +6,4 @@ pub mod ByLine
 pub mod Streamed
 pub mod Watched
 pub mod Followed
+pub mod Answering

@@ -3,13 +3,13 @@ use Rattle.std.proofs.Common.{◌≡◌, ◌⊎◌, inl, inr, ℕ, List, [], ◌
 use Rattle.std.proofs.lemmas.List.{append_assoc, append-nil, take-append-drop}
 use Rattle.std.proofs.KnownBytes.{Appends-trans}
 use Rattle.std.specs.Prelude.{IfErr, OnOk, OnErr}
+use Rattle.squall_cli_device.specs.declared.DeviceFault.{DeviceFault}
 use Rattle.squall_cli_device.specs.States.{SinkState, TookBytes, OutputFails, NoWriteFails}
 use Rattle.squall_cli_lines.specs.declared.RunFault.{RunFault}
 use Rattle.squall_cli_lines.specs.declared.RunFault.TheVariants.{Write}
 use Rattle.squall_cli_lines.specs.Heeding.{HeedsWrites, Says}
 use Rattle.squall_cli_lines.proofs.Bytes.{fine_is_no_error}
-use Rattle.squall_cli_ask.specs.Told.{status_of}
-use Rattle.squall_cli_ask.specs.Told.{fault_told, IsTold}
+use Rattle.squall_cli_ask.specs.Told.{IsTold}
 
 -- of a call that sends a text it is told whether a write failed
 pub unfailed : {T : Type 0} (x : T) (old new : SinkState) → HeedsWrites (Ok x) old new → NoWriteFails old new
@@ -34,6 +34,12 @@ says_sent (Ok u) old new text ok err only h = (text, ok, ([], sym (append-nil te
 says_sent (Err fault) old new text ok err only h =
     (take err.0 text, err.1, (drop err.0 text, sym (take-append-drop err.0 text)), inr (failed fault old new h only))
 
+-- the same of bytes
+pub says_bytes : (r : Result Unit DeviceFault) (old new : SinkState) (text : List ℕ)
+    → OnOk r (TookBytes old new text) → OnErr r ((n : ℕ) × TookBytes old new (take n text)) → OnErr r (OutputFails old new) → Says old new text
+says_bytes (Ok u) old new text ok err fails = (text, ok, ([], sym (append-nil text)), inl refl)
+says_bytes (Err fault) old new text ok err fails = (take err.0 text, err.1, (drop err.0 text, sym (take-append-drop err.0 text)), inr fails)
+
 -- a text was sent whole, and then another was told
 pub sent_later : (old mid new : SinkState) (text rest : List ℕ) → TookBytes old mid text → NoWriteFails old mid → Says mid new rest → Says old new (text ++ rest)
 sent_later old mid new text rest sent same s = (
@@ -54,14 +60,7 @@ pub told_of : (named named' : List ℕ → Type 0) (status : ℕ) (text : List �
     → ((name : List ℕ) → named name → named' name) → IsTold named status text → IsTold named' status text
 told_of named named' status text more (inl outcome) = inl outcome
 told_of named named' status text more (inr (inl file)) = inr (inl (file.0, more file.0 file.1, file.2, file.3))
-told_of named named' status text more (inr (inr words)) = inr (inr words)
-
--- what stopped a read
-pub read_told : {A : Type 0} (result : Result A ℕ) (named : List ℕ → Type 0) (old new : SinkState)
-    → IfErr result (λ status. (fault : RunFault) × (status ≡ status_of (Err fault)) × Says old new (fault_told fault))
-    → IfErr result (λ status. (text : List ℕ) × IsTold named status text × Says old new text)
-read_told (Ok bytes) named old new h = tt
-read_told (Err status) named old new h = (fault_told h.0, inl (Err h.0, h.1, refl), h.2)
+told_of named named' status text more (inr (inr other)) = inr (inr other)
 
 -- nothing was told before
 pub told_after : {D : Type 0} (state : D → SinkState) (a b c : D) (P : List ℕ → Type 0) → b ≡ a

@@ -1,5 +1,5 @@
 -- The status of the program, and what is told with it on standard error (this project's command line).
-use Rattle.std.specs.Prelude.{◌≡◌, ◌≢◌, ◌⊎◌, ℕ, List, [], ◌++◌, Result, Ok, Err, codes}
+use Rattle.std.specs.Prelude.{◌≡◌, ◌≢◌, ◌⊎◌, ℕ, List, [], ◌∷◌, ◌++◌, Result, Ok, Err, codes}
 use Rattle.std.specs.Io.{StartsWith}
 use Rattle.squall_cli_lines.specs.Faults.{text_of_run_fault}
 use Rattle.squall_cli_lines.specs.declared.Ended.{Ended}
@@ -36,6 +36,10 @@ outcome_told (Err fault) = fault_told fault
 abbrev pub unopened_told : List ℕ → List ℕ
 unopened_told name = codes "squall: cannot open " ++ (name ++ codes "\n")
 
+-- what is told of a file of which a read failed: its name, on a line
+abbrev pub unread_told : List ℕ → List ℕ
+unread_told name = codes "squall: cannot read " ++ (name ++ codes "\n")
+
 -- what is told of words that are to be a report and are none
 abbrev pub no_report_told : List ℕ
 no_report_told = codes "error: the words are no report: see squall help report\n"
@@ -44,11 +48,21 @@ no_report_told = codes "error: the words are no report: see squall help report\n
 abbrev pub input_taken_told : List ℕ
 input_taken_told = codes "error: standard input is read as it comes, so that no file can be -\n"
 
+-- what is told of an answer that refuses what was given: its text after the program's name, or nothing if it has none
+abbrev pub refusal_told : List ℕ → List ℕ
+refusal_told [] = []
+refusal_told (x ∷ text) = codes "squall: " ++ (x ∷ text)
+
 -- ---- what was told
 
+-- no file is meant
+abbrev pub IsNoName : List ℕ → Type 0
+IsNoName name = ⊥
+
 -- The text goes with the status: it is that of an outcome with this status; or, with status 3, that of a file that can't be opened
--- and has one of these names; or, with status 2, it says what is wrong with the words.
+-- or read and has one of these names; or, with status 2, it says what is wrong with the words; or, with status 5, it is empty.
 abbrev pub IsTold : (List ℕ → Type 0) → ℕ → List ℕ → Type 0
 IsTold named status text =
     ((outcome : Result Ended RunFault) × (status ≡ status_of outcome) × (text ≡ outcome_told outcome))
-    ⊎ (((name : List ℕ) × named name × (status ≡ 3) × (text ≡ unopened_told name)) ⊎ ((status ≡ 2) × StartsWith text (codes "error: ")))
+    ⊎ (((name : List ℕ) × named name × (status ≡ 3) × ((text ≡ unopened_told name) ⊎ (text ≡ unread_told name)))
+    ⊎ (((status ≡ 2) × StartsWith text (codes "error: ")) ⊎ ((status ≡ 5) × (text ≡ []))))

@@ -1,22 +1,21 @@
 //! Does what is asked of board files.
 
-ghost use Rattle.std.specs.Prelude.{◌≡◌, ◌≢◌, ◌⊎◌, ◌↔◌, ◌<◌, ℕ, List, true, false, map, string_bytes, Contains};
+ghost use Rattle.std.specs.Prelude.{◌≡◌, ◌≢◌, ◌⊎◌, ◌↔◌, ℕ, List, true, false, map, string_bytes};
 ghost use Rattle.std.specs.List.{list_all, list_any};
 ghost use Rattle.squall_cli_device.specs.States.{FoundEnd, NoReadFails, OutputFails, NoWriteFails};
 ghost use Rattle.squall_cli_lines.specs.Heeding.{InputFails, Says};
 ghost use Rattle.squall_cli_ask.specs.Files.{is_input};
 ghost use Rattle.squall_cli_ask.specs.Reads.{bytes_at};
-ghost use Rattle.squall_cli_ask.specs.Told.{IsTold, no_report_told};
-ghost use Rattle.squall_cli_ask.specs.Asked.{can_be, words_asked, files_asked, IsInquired};
+ghost use Rattle.squall_cli_ask.specs.Told.{no_report_told};
+ghost use Rattle.squall_cli_ask.specs.Asked.{can_be, words_asked, files_asked, GivesAnswer, IsInquired, IsToldOf};
 
 use crate::answer::answer_files;
 use crate::files::Files;
-use crate::messages::{BAD_WORDS, say, tell_fault, tell_outcome};
+use crate::messages::{BAD_WORDS, say};
 use crate::reading::read_files;
 use squall_cli_boards::{is_report, report_files};
 use squall_cli_command::{Ask, Inquiry};
 use squall_cli_device::{Sink, Source};
-use squall_cli_lines::RunFault;
 use std::alloc::Global;
 
 /// Says that the words are no report, and gives the status.
@@ -56,10 +55,12 @@ fn files_of(ask: &Ask) -> &[String]
 /// gives to its end. If it is named again, it is empty.
 ///
 /// - 0: the answer is written.
-/// - 1: the answer is written, and it refuses what was given.
+/// - 1: the answer refuses what was given. It goes to `err` if the command writes frames or a picture,
+///   and then nothing is written to `out`.
 /// - 2: the words are no report. Nothing is read or written, and `err` says so.
 /// - 3: a file can't be opened, a read failed or found no end, or a write failed or took nothing.
 /// - 4: an allocation failed.
+/// - 5: the answer is written. It shows a course that is not complete, and the status was to say so.
 ///
 /// With status 3 or 4 `err` says which.
 pub fn answer_inquiry<F: Files, S: Source, O: Sink, E: Sink>(
@@ -73,20 +74,21 @@ pub fn answer_inquiry<F: Files, S: Source, O: Sink, E: Sink>(
     ensures done { IsInquired ask.now.inquiry (words_asked ask.now)
         (bytes_at (F.known files.old) (S.state input.old) (O.state out.old)) (bytes_at (F.known files.new) (S.state input.new) (O.state out.new))
         (files_asked ask.now) result }
-    ensures ended { list_any is_input (files_asked ask.now) ≡ true → result < 2
+    ensures ended { list_any is_input (files_asked ask.now) ≡ true → GivesAnswer result
         → FoundEnd (S.state input.old) (S.state input.new) }
     ensures device { result ≡ 3 → InputFails (S.state input.old) (S.state input.new) ⊎ (OutputFails (O.state out.old) (O.state out.new)
         ⊎ (list_all is_input (files_asked ask.now) ≡ false)) }
     ensures bad { result ≢ 4 → (result ≡ 2) ↔ (can_be ask.now.inquiry (words_asked ask.now) ≡ false) }
     ensures heeds { result ≢ 3 → NoReadFails (S.state input.old) (S.state input.new) × NoWriteFails (O.state out.old) (O.state out.new) }
-    ensures told { (text : List ℕ) × IsTold (Contains (files_asked ask.now)) result text
-        × Says (E.state err.old) (E.state err.new) text }
+    ensures told { (text : List ℕ) × IsToldOf ask.now.inquiry (words_asked ask.now)
+        (bytes_at (F.known files.old) (S.state input.old) (O.state out.old)) (bytes_at (F.known files.new) (S.state input.new) (O.state out.new))
+        (files_asked ask.now) result text × Says (E.state err.old) (E.state err.new) text }
 {
     if !can_be(ask) {
         return tell_no_report(err);
     }
     match read_files(alloc, files_of(ask), files, input, err) {
-        Ok(read) => tell_outcome(answer_files(alloc, ask, &read, out), err),
+        Ok(read) => answer_files(alloc, ask, &read, out, err),
         Err(status) => status,
     }
 }

@@ -22,7 +22,7 @@ pub use answer::answer_files;
 pub use files::Files;
 pub use inquiry::answer_inquiry;
 pub use lines::answer_keys;
-pub use messages::{BAD_WORDS, say, tell_fault, tell_outcome, tell_unopened};
+pub use messages::{BAD_WORDS, say, tell_fault, tell_file_outcome, tell_outcome, tell_unopened};
 pub use reading::read_named;
 pub use stream::answer_stream;
 pub use watching::watch_files;

@@ -1,18 +1,18 @@
 //! What is written to standard error, and the status that goes with it.
 
-ghost use Rattle.std.specs.Prelude.{◌≡◌, Err};
+ghost use Rattle.std.specs.Prelude.{◌≡◌, ◌++◌, ℕ, List, Err, codes};
 ghost use Rattle.squall_cli_lines.specs.Heeding.{Says};
 ghost use Rattle.squall_cli_ask.specs.Told.{status_of};
-ghost use Rattle.squall_cli_ask.specs.Told.{fault_told, outcome_told, unopened_told};
+ghost use Rattle.squall_cli_ask.specs.Told.{fault_told, outcome_told, unopened_told, unread_told, IsTold};
 
 use squall_cli_device::Sink;
 use squall_cli_lines::{Ended, RunFault, send_text};
 
 /// The status of a task that was done.
-const FINE: u8 = 0;
+pub(crate) const FINE: u8 = 0;
 
 /// The status if the input was refused.
-const REFUSED: u8 = 1;
+pub(crate) const REFUSED: u8 = 1;
 
 /// The status if the words ask for nothing that there is.
 pub const BAD_WORDS: u8 = 2;
@@ -22,6 +22,9 @@ const DEVICE: u8 = 3;
 
 /// The status if an allocation failed.
 const MEMORY: u8 = 4;
+
+/// The status of a course that is not complete.
+pub(crate) const INCOMPLETE: u8 = 5;
 
 /// Writes to standard error. If that fails too, the status alone tells.
 pub fn say<E: Sink>(err: &mut E, text: &str)
@@ -51,11 +54,11 @@ pub fn tell_fault<E: Sink>(fault: RunFault, err: &mut E) -> u8
     }
 }
 
-/// Writes that the file can't be opened. After a write that failed nothing more is written.
-fn send_unopened<E: Sink>(name: &str, err: &mut E) -> Result<(), RunFault>
-    ensures told { Says (E.state err.old) (E.state err.new) (unopened_told name.now) }
+/// Writes a text and the name of a file, on a line. After a write that failed nothing more is written.
+fn send_named<E: Sink>(text: &str, name: &str, err: &mut E) -> Result<(), RunFault>
+    ensures told { Says (E.state err.old) (E.state err.new) (text.now ++ (name.now ++ codes "\n")) }
 {
-    send_text(err, "squall: cannot open ")?;
+    send_text(err, text)?;
     send_text(err, name)?;
     send_text(err, "\n")
 }
@@ -66,8 +69,42 @@ pub fn tell_unopened<E: Sink>(name: &str, err: &mut E) -> u8
     ensures told { Says (E.state err.old) (E.state err.new) (unopened_told name.now) }
 {
     // If standard error fails too, the status alone tells.
-    let _ = send_unopened(name, err);
+    let _ = send_named("squall: cannot open ", name, err);
     DEVICE
+}
+
+/// Says that a read of the file failed, and gives the status.
+fn tell_unread<E: Sink>(name: &str, err: &mut E) -> u8
+    ensures status { result ≡ 3 }
+    ensures told { Says (E.state err.old) (E.state err.new) (unread_told name.now) }
+{
+    // If standard error fails too, the status alone tells.
+    let _ = send_named("squall: cannot read ", name, err);
+    DEVICE
+}
+
+/// Says what stopped a task with the file of that name, and gives the status. A read that failed is
+/// told with the name, unless that is standard input.
+pub(crate) fn tell_file_fault<E: Sink>(name: &str, fault: RunFault, err: &mut E) -> u8
+    ensures status { result ≡ status_of (Err fault) }
+    ensures told { (text : List ℕ) × IsTold (λ file. file ≡ name.now) result text × Says (E.state err.old) (E.state err.new) text }
+{
+    if fault == RunFault::Read && name != "-" {
+        return tell_unread(name, err);
+    }
+    tell_fault(fault, err)
+}
+
+/// The status of a task that was begun with the file of that name. Says what stopped it, if something
+/// did.
+pub fn tell_file_outcome<E: Sink>(name: &str, outcome: Result<Ended, RunFault>, err: &mut E) -> u8
+    ensures status { result ≡ status_of outcome }
+    ensures told { (text : List ℕ) × IsTold (λ file. file ≡ name.now) result text × Says (E.state err.old) (E.state err.new) text }
+{
+    match outcome {
+        Ok(ended) => tell_outcome(Ok(ended), err),
+        Err(fault) => tell_file_fault(name, fault, err),
+    }
 }
 
 /// The status of a task that was begun. Says what stopped it, if something did.

@@ -7,19 +7,21 @@ ghost use Rattle.squall_cli_lines.specs.Heeding.{InputFails, Says};
 ghost use Rattle.squall_cli_boards.specs.Files.{file_with};
 ghost use Rattle.squall_cli_ask.specs.Files.{is_input, AddsNames};
 ghost use Rattle.squall_cli_ask.specs.Reads.{inputs_at, ReadsFrom, ReadsAll};
-ghost use Rattle.squall_cli_ask.specs.Told.{status_of, fault_told, IsTold, IsUnread};
+ghost use Rattle.squall_cli_ask.specs.Told.{IsTold, IsUnread};
 ghost use Rattle.squall_cli_ask.specs.Gathered.{AreRead, IsNextRead, TakesSome};
 
 use crate::files::Files;
-use crate::messages::{tell_fault, tell_unopened};
+use crate::messages::{tell_fault, tell_file_fault, tell_unopened};
 use squall_cli_boards::NamedFile;
 use squall_cli_device::{Sink, Source};
 use squall_cli_lines::{RunFault, read_all};
 use std::alloc::{AllocError, Global};
 
-/// The bytes of a source, up to its end. If they can't be had, it says why, and gives the status.
+/// The bytes of the source of that name, up to its end. If they can't be had, it says why, and gives the
+/// status.
 fn read_source<S: Source, E: Sink>(
     alloc: Global,
+    name: &str,
     source: &mut S,
     err: &mut E,
 ) -> Result<Vec<u8>, u8>
@@ -30,13 +32,12 @@ fn read_source<S: Source, E: Sink>(
     ensures device { IfErr result (λ status. status ≡ 3 → InputFails (S.state source.old) (S.state source.new)) }
     ensures heeds { result ≢ Err 3 → NoReadFails (S.state source.old) (S.state source.new) }
     ensures fault { IfErr result IsUnread }
-    ensures told { IfErr result (λ status. (fault : RunFault) × (status ≡ status_of (Err fault))
-        × Says (E.state err.old) (E.state err.new) (fault_told fault)) }
+    ensures told { IfErr result (λ status. (text : List ℕ) × IsTold (λ file. file ≡ name.now) status text × Says (E.state err.old) (E.state err.new) text) }
     ensures quiet { IsOk result → err.new ≡ err.old }
 {
     match read_all(alloc, source) {
         Ok(bytes) => Ok(bytes),
-        Err(fault) => Err(tell_fault(fault, err)),
+        Err(fault) => Err(tell_file_fault(name, fault, err)),
     }
 }
 
@@ -65,10 +66,10 @@ pub fn read_named<F: Files, S: Source, E: Sink>(
     ensures quiet { IsOk result → err.new ≡ err.old }
 {
     if name == "-" {
-        return read_source(alloc, input, err);
+        return read_source(alloc, name, input, err);
     }
     match files.open(name) {
-        Some(mut file) => read_source(alloc, &mut file, err),
+        Some(mut file) => read_source(alloc, name, &mut file, err),
         None => Err(tell_unopened(name, err)),
     }
 }

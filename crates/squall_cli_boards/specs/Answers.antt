@@ -28,13 +28,18 @@ use Rattle.squall_cli_command.specs.declared.form.Form.TheVariants.{Lines, Json}
 use Rattle.squall_cli_json.specs.Values.{json_line, json_of_refusal, json_of_board}
 use Rattle.squall_cli_boards.specs.Files.{FileValue, RefusalValue, refused_file, board_of_files, digest_of_file}
 
--- the bytes to write, and whether they refuse what was given
+-- the bytes to write, whether they refuse what was given, and whether they show a course that is not complete
 pub record AnswerValue : Type 0 where
   pub text : List ℕ
   pub refused : Bool
+  pub incomplete : Bool
 
+abbrev pub answer_of : List ℕ → Bool → Bool → AnswerValue
+answer_of text refused incomplete = record { text = text; refused = refused; incomplete = incomplete }
+
+-- an answer that shows no course that is not complete
 abbrev pub answer_with : List ℕ → Bool → AnswerValue
-answer_with text refused = record { text = text; refused = refused }
+answer_with text refused = answer_of text refused false
 
 -- what was given is refused by this line
 abbrev pub refusing : List ℕ → AnswerValue

@@ -1,17 +1,21 @@
 -- What is answered of the newest course of two plans and of board files (this project's command line).
-use Rattle.std.specs.Prelude.{◌≡◌, ℕ, List, false, Result, Ok, Err}
+use Rattle.std.specs.Prelude.{◌≡◌, ℕ, List, Bool, false, not, Result, Ok, Err, if◌then◌else◌}
+use Rattle.std.specs.List.{list_all}
 use Rattle.squall_course.specs.Change.{Change}
 use Rattle.squall_board.specs.Boards.{BoardValue, says}
 use Rattle.squall_board.specs.Route.{route}
 use Rattle.squall_status.specs.declared.text.Shown.{Shown}
+use Rattle.squall_status.specs.declared.text.Shown.TheVariants.{EachMove, Waiting}
+use Rattle.squall_status.specs.Coming.{is_complete}
 use Rattle.squall_status.specs.Summary.{StatusValue, IsStatusOf}
 use Rattle.squall_status.specs.Texts.{status_text}
 use Rattle.squall_picture.specs.Picture.{IsPictureOf}
 use Rattle.squall_cli_command.specs.declared.form.Form.{Form}
 use Rattle.squall_cli_command.specs.declared.form.Form.TheVariants.{Lines, Json}
+use Rattle.squall_cli_command.specs.declared.inquiry.StatusAsk.{StatusAsk}
 use Rattle.squall_cli_json.specs.Values.{json_line, json_of_status}
 use Rattle.squall_cli_boards.specs.Files.{FileValue}
-use Rattle.squall_cli_boards.specs.Answers.{AnswerValue, answer_with}
+use Rattle.squall_cli_boards.specs.Answers.{AnswerValue, answer_of, answer_with}
 use Rattle.squall_cli_boards.specs.Known.{KnownValue, newest_of}
 use Rattle.squall_cli_boards.specs.Routes.{routes_answer, legs_answer, span_asked}
 
@@ -20,9 +24,17 @@ abbrev pub status_in : Form → Shown → StatusValue → List ℕ
 status_in Lines shown s = status_text shown s
 status_in Json shown s = json_line (json_of_status shown s)
 
+-- each move of the course is complete
+abbrev pub all_complete : StatusValue → Bool
+all_complete s = list_all (λ m. is_complete m.progress) s.moves
+
 -- `status`: how far the course has come, as the board says
 abbrev pub ShowsStatus : Form → Shown → Change → BoardValue → AnswerValue → Type 0
-ShowsStatus form shown c b a = (s : StatusValue) × IsStatusOf c (says b) s × (a ≡ answer_with (status_in form shown s) false)
+ShowsStatus form shown c b a = (s : StatusValue) × IsStatusOf c (says b) s × (a ≡ answer_of (status_in form shown s) false (not (all_complete s)))
+
+-- which moves are shown
+abbrev pub shown_as : StatusAsk → Shown
+shown_as how = if how.is_waiting then Waiting else EachMove
 
 -- `picture`: the same as a picture
 abbrev pub ShowsPicture : Change → BoardValue → AnswerValue → Type 0

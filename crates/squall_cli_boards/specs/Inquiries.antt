@@ -1,21 +1,19 @@
 -- What is answered to an inquiry about files (this project's command line).
 use Rattle.std.specs.Prelude.{ℕ, List, take, drop}
-use Rattle.squall_status.specs.declared.text.Shown.TheVariants as shown
 use Rattle.squall_cli_command.specs.declared.inquiry.Inquiry.{Inquiry}
 use Rattle.squall_cli_command.specs.declared.inquiry.Inquiry.TheVariants as inquiry
 use Rattle.squall_cli_command.specs.declared.form.Form.TheVariants.{Lines}
 use Rattle.squall_cli_boards.specs.Files.{FileValue, board_of_files, files_joined}
 use Rattle.squall_cli_boards.specs.Answers.{AnswerValue, AnswersFor, AnswersIn, AnswersBoth, AnswersRepair}
 use Rattle.squall_cli_boards.specs.Answers.{ShowsBoard, ShowsFrames, ShowsDigest, ShowsBeyond, ShowsCover}
-use Rattle.squall_cli_boards.specs.Courses.{ShowsStatus, ShowsPicture, ShowsRoutes, ShowsLegs, AnswersNewest}
+use Rattle.squall_cli_boards.specs.Courses.{shown_as, ShowsStatus, ShowsPicture, ShowsRoutes, ShowsLegs, AnswersNewest}
 use Rattle.squall_cli_boards.specs.ReportWords.{report_asked, AnswersReport}
 
 -- what is answered to an inquiry with some words about files, in their order: only for a report, routes and legs do the words count
 abbrev pub IsAnswerTo : Inquiry → List (List ℕ) → List FileValue → AnswerValue → Type 0
 IsAnswerTo inquiry.Report words files a = AnswersReport (report_asked words) files a
 IsAnswerTo (inquiry.Board form) words files a = AnswersIn form (ShowsBoard form) (files_joined files) a
-IsAnswerTo (inquiry.Status form) words files a = AnswersNewest form (ShowsStatus form shown.EachMove) files a
-IsAnswerTo (inquiry.Waiting form) words files a = AnswersNewest form (ShowsStatus form shown.Waiting) files a
+IsAnswerTo (inquiry.Status how) words files a = AnswersNewest how.form (ShowsStatus how.form (shown_as how)) files a
 IsAnswerTo inquiry.Picture words files a = AnswersNewest Lines ShowsPicture files a
 IsAnswerTo inquiry.Routes words files a = AnswersNewest Lines (ShowsRoutes words) files a
 IsAnswerTo (inquiry.Legs form) words files a = AnswersNewest form (ShowsLegs form words) files a

@@ -12,7 +12,7 @@ use Rattle.squall_plan.specs.declared.range.PlanRange.{PlanRange}
 use Rattle.squall_cli_command.specs.declared.form.Form.{Form}
 use Rattle.squall_cli_command.specs.declared.form.Form.TheVariants.{Lines, Json}
 use Rattle.squall_cli_json.specs.Values.{json_line, json_of_refusal, json_of_legs}
-use Rattle.squall_cli_boards.specs.Answers.{AnswerValue, answer_with, refusing}
+use Rattle.squall_cli_boards.specs.Answers.{AnswerValue, answer_of, answer_with, refusing}
 
 -- what refuses the words of that number, counted from 1, as a scenario refuses a line
 abbrev pub refusing_words : ℕ → Reason → AnswerValue
@@ -22,7 +22,7 @@ refusing_words number reason = refusing (bad_line number reason ++ codes "\n")
 
 -- what stands after a text
 abbrev pub after_text : List ℕ → AnswerValue → AnswerValue
-after_text text a = answer_with (text ++ a.text) a.refused
+after_text text a = answer_of (text ++ a.text) a.refused a.incomplete
 
 -- what is answered to the word of that number, and after it: a word that is no key is refused, and ends the answer
 abbrev pub key_answer : (ℕ → ℕ) → ℕ → Option ℕ → AnswerValue → AnswerValue

@@ -1,24 +1,26 @@
 //! What a command answers.
 
-ghost use Rattle.std.specs.Prelude.{◌≡◌, [], false, IfOk};
-ghost use Rattle.squall_cli_boards.specs.Answers.{answer_with, refusing};
+ghost use Rattle.std.specs.Prelude.{◌≡◌, [], false, not, IfOk};
+ghost use Rattle.squall_cli_boards.specs.Answers.{answer_of, answer_with, refusing};
 
 use std::alloc::{AllocError, Global};
 use std::marker::Model;
 
-/// The bytes to write, and whether they refuse what was given. Contracts see both.
+/// The bytes to write, whether they refuse what was given, and whether they show a course that is not
+/// complete. Contracts see all three.
 #[derive(Drop)]
 pub struct Answer {
     text: Vec<u8>,
     refused: bool,
+    incomplete: bool,
 }
 
 impl Model for Answer {
-    ghost use Rattle.squall_cli_boards.specs.Answers.{AnswerValue, answer_with};
+    ghost use Rattle.squall_cli_boards.specs.Answers.{AnswerValue, answer_of};
 
     ghost Value = { AnswerValue };
 
-    ghost view = { λ a. answer_with a.text.items a.refused };
+    ghost view = { λ a. answer_of a.text.items a.refused a.incomplete };
 }
 
 impl Answer {
@@ -29,6 +31,7 @@ impl Answer {
         Answer {
             text,
             refused: false,
+            incomplete: false,
         }
     }
 
@@ -37,6 +40,21 @@ impl Answer {
         ensures { IfOk result (λ a. a ≡ answer_with text.now false) }
     {
         Ok(Answer::fine(Vec::from_slice(alloc, text.as_bytes())?))
+    }
+
+    /// The text of a course as an answer that refuses nothing.
+    pub(crate) fn of_course(
+        alloc: Global,
+        text: &str,
+        is_complete: bool,
+    ) -> Result<Answer, AllocError>
+        ensures { IfOk result (λ a. a ≡ answer_of text.now false (not is_complete)) }
+    {
+        Ok(Answer {
+            text: Vec::from_slice(alloc, text.as_bytes())?,
+            refused: false,
+            incomplete: !is_complete,
+        })
     }
 
     /// The line as an answer that refuses what was given.
@@ -51,7 +69,11 @@ impl Answer {
         ensures { IfOk result (λ a. a ≡ answer_with text.now refused) }
     {
         let text = Vec::from_slice(alloc, text.as_bytes())?;
-        Ok(Answer { text, refused })
+        Ok(Answer {
+            text,
+            refused,
+            incomplete: false,
+        })
     }
 
     /// An answer without bytes. It allocates nothing.
@@ -61,6 +83,7 @@ impl Answer {
         Answer {
             text: Vec::new(alloc),
             refused,
+            incomplete: false,
         }
     }
 
@@ -76,5 +99,12 @@ impl Answer {
         ensures { result ≡ self.now.refused }
     {
         self.refused
+    }
+
+    /// Whether they show a course that is not complete.
+    pub fn is_incomplete(&self) -> bool
+        ensures { result ≡ self.now.incomplete }
+    {
+        self.incomplete
     }
 }

@@ -1,14 +1,14 @@
 //! What is asked of the newest course of two plans and of board files.
 
 ghost use Rattle.std.specs.Prelude.{◌≡◌, IfOk, map, string_bytes};
-ghost use Rattle.squall_cli_boards.specs.Courses.{status_in, ShowsStatus, ShowsPicture, ShowsRoutes, ShowsLegs, AnswersNewest};
+ghost use Rattle.squall_cli_boards.specs.Courses.{status_in, all_complete, shown_as, ShowsStatus, ShowsPicture, ShowsRoutes, ShowsLegs, AnswersNewest};
 ghost use Rattle.squall_cli_command.specs.declared.form.Form.TheVariants.{Lines};
 
 use crate::answer::Answer;
 use crate::file::NamedFile;
 use crate::known::{Known, newest_of};
 use crate::routes::{shown_legs, shown_routes};
-use squall_cli_command::Form;
+use squall_cli_command::{Form, StatusAsk};
 use squall_cli_json::status_json;
 use squall_picture::picture;
 use squall_status::{CourseStatus, Shown, add_status};
@@ -33,6 +33,28 @@ pub fn status_text(
     }
 }
 
+/// Whether each move of the course is complete.
+fn all_complete(status: &CourseStatus) -> bool
+    ensures { result ≡ all_complete status.now }
+{
+    for change in status.moves() {
+        if !change.progress.is_complete() {
+            return false;
+        }
+    }
+    true
+}
+
+/// Which moves are shown.
+fn shown_as(how: StatusAsk) -> Shown
+    ensures { result ≡ shown_as how }
+{
+    if how.is_waiting {
+        return Shown::Waiting;
+    }
+    Shown::EachMove
+}
+
 /// How far the course has come, as the board says.
 fn shown_status(
     alloc: Global,
@@ -44,20 +66,19 @@ fn shown_status(
 {
     let status = CourseStatus::of(alloc, &known.course, &known.board)?;
     let text = status_text(alloc, form, shown, &status)?;
-    Answer::fine_text(alloc, text.as_str())
+    Answer::of_course(alloc, text.as_str(), all_complete(&status))
 }
 
 /// How far the newest course of the files has come. A plan or a board file that has a fault is refused.
 pub(crate) fn status_answer(
     alloc: Global,
-    form: Form,
-    shown: Shown,
+    how: StatusAsk,
     files: &[NamedFile],
 ) -> Result<Answer, AllocError>
-    ensures { IfOk result (λ a. AnswersNewest form (ShowsStatus form shown) files.now a) }
+    ensures { IfOk result (λ a. AnswersNewest how.form (ShowsStatus how.form (shown_as how)) files.now a) }
 {
-    match newest_of(alloc, form, files)? {
-        Ok(known) => shown_status(alloc, form, shown, &known),
+    match newest_of(alloc, how.form, files)? {
+        Ok(known) => shown_status(alloc, how.form, shown_as(how), &known),
         Err(answer) => Ok(answer),
     }
 }

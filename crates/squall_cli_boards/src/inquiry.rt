@@ -10,7 +10,6 @@ use crate::exchange::{beyond_answer, cover_answer, repair_answer};
 use crate::file::NamedFile;
 use crate::plans::report_answer;
 use squall_cli_command::Inquiry;
-use squall_status::Shown;
 use std::alloc::{AllocError, Global};
 
 /// The answer to the inquiry about the files, in their order. The words count only for a report, routes
@@ -26,8 +25,7 @@ pub fn answer_to(
     match inquiry {
         Inquiry::Report => report_answer(alloc, words, files),
         Inquiry::Board(form) => board_answer(alloc, form, files),
-        Inquiry::Status(form) => status_answer(alloc, form, Shown::EachMove, files),
-        Inquiry::Waiting(form) => status_answer(alloc, form, Shown::Waiting, files),
+        Inquiry::Status(how) => status_answer(alloc, how, files),
         Inquiry::Picture => picture_answer(alloc, files),
         Inquiry::Routes => routes_answer(alloc, words, files),
         Inquiry::Legs(form) => legs_answer(alloc, form, words, files),

@@ -5,7 +5,8 @@ use Rattle.std.specs.Option.{option_map_or}
 use Rattle.std.specs.Str.{bytes_eq}
 use Rattle.clap.specs.Words.{App, Shape, Row, Text, new_app, with_rule, first_of, all_of}
 use Rattle.squall_cli_command.specs.declared.inquiry.Inquiry.{Inquiry}
-use Rattle.squall_cli_command.specs.declared.inquiry.Inquiry.TheVariants.{Report, Board, Status, Waiting, Picture, Routes, Legs, Merge, Beyond, Cover, Digest, Repair}
+use Rattle.squall_cli_command.specs.declared.inquiry.StatusAsk.{StatusAsk}
+use Rattle.squall_cli_command.specs.declared.inquiry.Inquiry.TheVariants.{Report, Board, Status, Picture, Routes, Legs, Merge, Beyond, Cover, Digest, Repair}
 use Rattle.squall_cli_command.specs.declared.form.Form.{Form}
 use Rattle.squall_cli_command.specs.declared.form.Form.TheVariants.{Lines, Json}
 use Rattle.squall_cli_command.specs.Rules.{file_rule, words_rule, files_rule, option_rule, flag_rule}
@@ -22,11 +23,15 @@ board_shape = (with_rule (with_rule (new_app (codes "board")) (words_rule (codes
 abbrev pub of_plans : Text → App
 of_plans name = with_rule (with_rule (new_app name) (file_rule (codes "OLD"))) (file_rule (codes "NEW"))
 
+-- a command of two plans and board files, without what may follow: `NAME OLD NEW [FILE..] [--board FILE]..`
+abbrev pub of_boards : Text → App
+of_boards name = with_rule (with_rule (of_plans name) (files_rule (codes "FILE"))) (option_rule (codes "board"))
+
 abbrev pub status_shape : Shape
-status_shape = (with_rule (with_rule (with_rule (of_plans (codes "status")) (files_rule (codes "FILE"))) (flag_rule (codes "waiting"))) (flag_rule (codes "json"))).top
+status_shape = (with_rule (with_rule (with_rule (of_boards (codes "status")) (flag_rule (codes "waiting"))) (flag_rule (codes "json"))) (flag_rule (codes "exit-status"))).top
 
 abbrev pub picture_shape : Shape
-picture_shape = (with_rule (of_plans (codes "picture")) (files_rule (codes "FILE"))).top
+picture_shape = (of_boards (codes "picture")).top
 
 abbrev pub watch_shape : Shape
 watch_shape = (with_rule (of_plans (codes "watch")) (flag_rule (codes "json"))).top
@@ -59,6 +64,14 @@ is_set id rows = option_map_or (λ value. bytes_eq value (codes "true")) (first_
 abbrev pub form_in : List Row → Form
 form_in rows = if is_set (codes "json") rows then Json else Lines
 
+-- the status in that form, of all moves or of those that are not complete, and whether the exit status judges the course
+abbrev pub status_asked : Form → Bool → Bool → StatusAsk
+status_asked form waiting judged = record { form = form; is_waiting = waiting; is_judged = judged }
+
+-- how the entries ask for the status of a course
+abbrev pub status_in : List Row → StatusAsk
+status_in rows = status_asked (form_in rows) (is_set (codes "waiting") rows) (is_set (codes "exit-status") rows)
+
 -- what a command's name and entries ask of boards as frames: nothing if it is another command
 abbrev pub exchange_in : Text → List Row → Option Inquiry
 exchange_in name rows =
@@ -73,7 +86,7 @@ abbrev pub inquiry_in : Text → List Row → Option Inquiry
 inquiry_in name rows =
     if bytes_eq name (codes "report") then Some Report
     else (if bytes_eq name (codes "board") then Some (Board (form_in rows))
-    else (if bytes_eq name (codes "status") then Some (if is_set (codes "waiting") rows then Waiting (form_in rows) else Status (form_in rows))
+    else (if bytes_eq name (codes "status") then Some (Status (status_in rows))
     else (if bytes_eq name (codes "picture") then Some Picture
     else (if bytes_eq name (codes "route") then Some Routes
     else (if bytes_eq name (codes "legs") then Some (Legs (form_in rows))
@@ -83,8 +96,7 @@ inquiry_in name rows =
 abbrev pub word_arguments : Inquiry → List Text
 word_arguments Report = codes "WORD" ∷ []
 word_arguments (Board form) = []
-word_arguments (Status form) = []
-word_arguments (Waiting form) = []
+word_arguments (Status how) = []
 word_arguments Picture = []
 word_arguments Routes = codes "KEY" ∷ []
 word_arguments (Legs form) = codes "BOUND" ∷ []
@@ -98,9 +110,8 @@ word_arguments Repair = []
 abbrev pub file_arguments : Inquiry → List Text
 file_arguments Report = []
 file_arguments (Board form) = codes "FILE" ∷ []
-file_arguments (Status form) = codes "OLD" ∷ codes "NEW" ∷ codes "FILE" ∷ []
-file_arguments (Waiting form) = codes "OLD" ∷ codes "NEW" ∷ codes "FILE" ∷ []
-file_arguments Picture = codes "OLD" ∷ codes "NEW" ∷ codes "FILE" ∷ []
+file_arguments (Status how) = codes "OLD" ∷ codes "NEW" ∷ codes "FILE" ∷ codes "board" ∷ []
+file_arguments Picture = codes "OLD" ∷ codes "NEW" ∷ codes "FILE" ∷ codes "board" ∷ []
 file_arguments Routes = codes "OLD" ∷ codes "NEW" ∷ codes "board" ∷ []
 file_arguments (Legs form) = codes "OLD" ∷ codes "NEW" ∷ codes "board" ∷ []
 file_arguments Merge = codes "FILE" ∷ []

@@ -47,7 +47,7 @@ runs_app = with_subcommand (with_subcommand plans_app run_shape) race_shape
 abbrev pub reports_app : App
 reports_app = with_subcommand (with_subcommand runs_app report_shape) board_shape
 
--- and those of the newest course: `status OLD NEW [FILE..]` and `picture OLD NEW [FILE..]`
+-- and those of the newest course: `status OLD NEW [FILE..]` and `picture OLD NEW [FILE..]`, both with `--board FILE`
 abbrev pub courses_app : App
 courses_app = with_subcommand (with_subcommand reports_app status_shape) picture_shape
 

@@ -3,7 +3,7 @@
 ghost use Rattle.std.specs.Prelude.{◌≡◌, IfOk, false};
 ghost use Rattle.clap.specs.Words.{app_of, shape_of, rule_of};
 ghost use Rattle.clap.specs.declared.builder.command.Command.TheViews.{out-Command as fields_of};
-ghost use Rattle.squall_cli_command.specs.Asking.{of_plans, status_shape, picture_shape, watch_shape, route_shape, legs_shape};
+ghost use Rattle.squall_cli_command.specs.Asking.{of_plans, of_boards, status_shape, picture_shape, watch_shape, route_shape, legs_shape};
 ghost use Rattle.squall_cli_command.specs.Rules.{option_rule};
 
 use crate::boards::{described, files, flag, json};
@@ -15,9 +15,12 @@ const STATUS: &str =
     "OLD and NEW are the plans of the first course. The status is that of the newest one that
 the files tell of.
 
+With --exit-status the exit status is 5 as long as a move of that course is not complete.
+
 Example:
-  squall status --waiting old.json new.json board.bin
-  squall status --json old.json new.json board.bin";
+  squall status --waiting old.json new.json --board board.bin
+  squall status --json old.json new.json --board board.bin
+  squall status --exit-status old.json new.json --board board.bin >/dev/null && echo complete";
 
 const PICTURE: &str =
     "OLD and NEW are the plans of the first course. The picture is that of the newest one that
@@ -25,7 +28,7 @@ the files tell of: its old plan above, its new plan below, and a band between th
 The loaded share of a band is filled.
 
 Example:
-  squall picture old.json new.json board.bin >move.svg";
+  squall picture old.json new.json --board board.bin >move.svg";
 
 const WATCH: &str =
     "OLD and NEW are the plans of the first course. Frames of boards are read from standard
@@ -89,38 +92,56 @@ pub(crate) fn of_plans<'a>(
         .arg(file(alloc, "NEW", "The file of the new plan, or -"))
 }
 
-/// `status OLD NEW [FILE..] [--waiting] [--json]`
+/// A command of two plans and board files, without what may follow: `NAME OLD NEW [FILE..] [--board FILE]..`.
+fn of_boards<'a>(
+    alloc: Global,
+    name: &'a str,
+    about: &'a str,
+    after_help: &'a str,
+) -> Result<Command<'a>, AllocError>
+    ensures app { IfOk result (λ c. app_of c ≡ of_boards name.entry.now) }
+    ensures globals { IfOk result (λ c. (fields_of c).has_globals ≡ false) }
+{
+    of_plans(alloc, name, about, after_help)?
+        .arg(files(alloc, "FILE", "The same as --board FILE"))?
+        .arg(option(alloc, "board", "A file of frames, or -"))
+}
+
+/// `status OLD NEW [FILE..] [--board FILE].. [--waiting] [--json] [--exit-status]`
 pub(crate) fn status_command<'a>(alloc: Global) -> Result<Command<'a>, AllocError>
     ensures shape { IfOk result (λ c. shape_of c ≡ status_shape) }
     ensures globals { IfOk result (λ c. (fields_of c).has_globals ≡ false) }
 {
-    of_plans(
+    of_boards(
         alloc,
         "status",
         "Shows how far the newest course is",
         STATUS,
     )?
-    .arg(files(alloc, "FILE", "The files of frames, or -"))?
     .arg(flag(
         alloc,
         "waiting",
         "Shows only the moves that are not complete",
     ))?
-    .arg(json(alloc))
+    .arg(json(alloc))?
+    .arg(flag(
+        alloc,
+        "exit-status",
+        "Ends with status 5 if a move is not complete",
+    ))
 }
 
-/// `picture OLD NEW [FILE..]`
+/// `picture OLD NEW [FILE..] [--board FILE]..`
 pub(crate) fn picture_command<'a>(alloc: Global) -> Result<Command<'a>, AllocError>
     ensures shape { IfOk result (λ c. shape_of c ≡ picture_shape) }
     ensures globals { IfOk result (λ c. (fields_of c).has_globals ≡ false) }
 {
-    of_plans(
+    of_boards(
         alloc,
         "picture",
         "Draws how far the newest course is, as an SVG image",
         PICTURE,
-    )?
-    .arg(files(alloc, "FILE", "The files of frames, or -"))
+    )
 }
 
 /// `watch OLD NEW [--json]`

@@ -3,11 +3,22 @@
 ghost use Rattle.std.specs.Prelude.{◌≡◌, ◌++◌, map, string_bytes, IfOk, OnOk, if◌then◌else◌};
 ghost use Rattle.clap.specs.Words.{found_of, rows_of};
 ghost use Rattle.squall_cli_command.specs.Line.{words_of};
-ghost use Rattle.squall_cli_command.specs.Asking.{is_set, exchange_in, inquiry_in, word_arguments, file_arguments, values_in, words_in};
+ghost use Rattle.squall_cli_command.specs.Asking.{is_set, status_in, exchange_in, inquiry_in, word_arguments, file_arguments, values_in, words_in};
 
 use crate::form::{Form, form_of, is_set};
 use clap::ArgMatches;
 use std::alloc::{AllocError, Global};
+
+/// How the status of a course is asked for.
+#[derive(Clone, Copy, Debug, PartialEq, Eq)]
+pub struct StatusAsk {
+    /// How it is written.
+    pub form: Form,
+    /// Whether only the moves that are not complete are shown.
+    pub is_waiting: bool,
+    /// Whether the exit status says that the course is not complete.
+    pub is_judged: bool,
+}
 
 /// What is asked of board files.
 #[derive(Clone, Copy, Debug, PartialEq, Eq)]
@@ -17,9 +28,7 @@ pub enum Inquiry {
     /// What the board files tell, as lines or as JSON.
     Board(Form),
     /// How far the newest course has come. The files are the old plan, the new plan and board files.
-    Status(Form),
-    /// The same, with the moves alone that are not complete.
-    Waiting(Form),
+    Status(StatusAsk),
     /// The picture of how far the newest course has come, of the same files.
     Picture,
     /// The routes of keys by the newest course, of the same files. The words are the keys.
@@ -56,6 +65,17 @@ fn by_flag(matches: &ArgMatches, id: &str, with: Inquiry, without: Inquiry) -> I
     if is_set(matches, id) { with } else { without }
 }
 
+/// How the words ask for the status of a course.
+fn status_of(matches: &ArgMatches) -> StatusAsk
+    ensures { result ≡ status_in (rows_of (found_of matches.now)) }
+{
+    StatusAsk {
+        form: form_of(matches),
+        is_waiting: is_set(matches, "waiting"),
+        is_judged: is_set(matches, "exit-status"),
+    }
+}
+
 /// What a command asks of boards as frames. None if it is another command.
 fn exchange_of(name: &str, matches: &ArgMatches) -> Option<Inquiry>
     ensures { result ≡ exchange_in name.now (rows_of (found_of matches.now)) }
@@ -86,9 +106,7 @@ pub(crate) fn inquiry_of(name: &str, matches: &ArgMatches) -> Option<Inquiry>
         return Some(Inquiry::Board(form_of(matches)));
     }
     if name == "status" {
-        let form = form_of(matches);
-        let (waiting, status) = (Inquiry::Waiting(form), Inquiry::Status(form));
-        return Some(by_flag(matches, "waiting", waiting, status));
+        return Some(Inquiry::Status(status_of(matches)));
     }
     if name == "picture" {
         return Some(Inquiry::Picture);
@@ -121,7 +139,7 @@ fn file_arguments(inquiry: Inquiry) -> &'static [&'static str]
     match inquiry {
         Inquiry::Report => &[],
         Inquiry::Board(_) | Inquiry::Merge => &["FILE"],
-        Inquiry::Status(_) | Inquiry::Waiting(_) | Inquiry::Picture => &["OLD", "NEW", "FILE"],
+        Inquiry::Status(_) | Inquiry::Picture => &["OLD", "NEW", "FILE", "board"],
         Inquiry::Routes | Inquiry::Legs(_) => &["OLD", "NEW", "board"],
         Inquiry::Beyond | Inquiry::Cover => &["A", "B"],
         Inquiry::Digest => &["A"],

@@ -1,10 +1,11 @@
 //! Laws of the words, each the contract of a function that does nothing.
 
-ghost use Rattle.std.specs.Prelude.{◌≢◌, ◌⊎◌, ◌∷◌, [], List, codes};
+ghost use Rattle.std.specs.Prelude.{◌≢◌, ◌⊎◌, ◌∷◌, [], List, true, false, codes};
 ghost use Rattle.clap.specs.Words.{Text};
-ghost use Rattle.squall_cli_command.specs.declared.inquiry.Inquiry.TheVariants.{Report, Board, Status, Waiting, Routes, Legs, Beyond, Cover};
+ghost use Rattle.squall_cli_command.specs.declared.inquiry.Inquiry.TheVariants.{Report, Board, Status, Routes, Legs, Beyond, Cover};
 ghost use Rattle.squall_cli_command.specs.declared.stream.Stream.TheVariants.{Keys, Frames};
 ghost use Rattle.squall_cli_command.specs.declared.form.Form.TheVariants.{Lines, Json};
+ghost use Rattle.squall_cli_command.specs.Asking.{status_asked};
 ghost use Rattle.squall_cli_command.specs.Line.{Asks, AsksForHelp, IsFaulty, faults_in, check, course, run, ask, stream};
 
 /// Standard input is run without a command, and by `run -`; it is checked by `check -`.
@@ -24,20 +25,25 @@ pub fn words_of_boards()
 /// A flag is no file of the inquiry, and changes what is asked.
 pub fn flags_of_boards()
     ensures status { (name : Text) → Asks (name ∷ codes "status" ∷ codes "o" ∷ codes "n" ∷ codes "b" ∷ [])
-        (ask (Status Lines) [] (codes "o" ∷ codes "n" ∷ codes "b" ∷ [])) }
+        (ask (Status (status_asked Lines false false)) [] (codes "o" ∷ codes "n" ∷ codes "b" ∷ [])) }
     ensures waiting { (name : Text) → Asks (name ∷ codes "status" ∷ codes "--waiting" ∷ codes "o" ∷ codes "n" ∷ [])
-        (ask (Waiting Lines) [] (codes "o" ∷ codes "n" ∷ [])) }
+        (ask (Status (status_asked Lines true false)) [] (codes "o" ∷ codes "n" ∷ [])) }
+    ensures judged { (name : Text) → Asks (name ∷ codes "status" ∷ codes "--exit-status" ∷ codes "o" ∷ codes "n" ∷ [])
+        (ask (Status (status_asked Lines false true)) [] (codes "o" ∷ codes "n" ∷ [])) }
     ensures beyond { (name : Text) → Asks (name ∷ codes "beyond" ∷ codes "a" ∷ codes "b" ∷ []) (ask Beyond [] (codes "a" ∷ codes "b" ∷ [])) }
     ensures quiet { (name : Text) → Asks (name ∷ codes "beyond" ∷ codes "a" ∷ codes "b" ∷ codes "--quiet" ∷ []) (ask Cover [] (codes "a" ∷ codes "b" ∷ [])) }
 {}
 
 /// The files of a route and of legs are the two plans and those of `--board`, before or after the
-/// other words. The words are the keys and the bounds.
+/// other words. The words are the keys and the bounds. Of a status the other words are files, too, and
+/// come before those of `--board`.
 pub fn files_of_routes()
     ensures route { (name : Text) → Asks (name ∷ codes "route" ∷ codes "o" ∷ codes "n" ∷ codes "2:0" ∷ codes "--board" ∷ codes "b" ∷ codes "3:0" ∷ [])
         (ask Routes (codes "2:0" ∷ codes "3:0" ∷ []) (codes "o" ∷ codes "n" ∷ codes "b" ∷ [])) }
     ensures legs { (name : Text) → Asks (name ∷ codes "legs" ∷ codes "--board" ∷ codes "b" ∷ codes "o" ∷ codes "n" ∷ [])
         (ask (Legs Lines) [] (codes "o" ∷ codes "n" ∷ codes "b" ∷ [])) }
+    ensures status { (name : Text) → Asks (name ∷ codes "status" ∷ codes "--board" ∷ codes "b" ∷ codes "o" ∷ codes "n" ∷ codes "f" ∷ [])
+        (ask (Status (status_asked Lines false false)) [] (codes "o" ∷ codes "n" ∷ codes "f" ∷ codes "b" ∷ [])) }
 {}
 
 /// Without a key, and with `-` as the only one, a route's keys are those of standard input.
@@ -60,9 +66,9 @@ pub fn forms_of_answers()
     ensures course { (name : Text) → Asks (name ∷ codes "course" ∷ codes "o" ∷ codes "n" ∷ codes "--json" ∷ []) (course Json (codes "o") (codes "n")) }
     ensures board { (name : Text) → Asks (name ∷ codes "board" ∷ codes "--json" ∷ codes "b" ∷ []) (ask (Board Json) [] (codes "b" ∷ [])) }
     ensures status { (name : Text) → Asks (name ∷ codes "status" ∷ codes "o" ∷ codes "n" ∷ codes "--json" ∷ [])
-        (ask (Status Json) [] (codes "o" ∷ codes "n" ∷ [])) }
+        (ask (Status (status_asked Json false false)) [] (codes "o" ∷ codes "n" ∷ [])) }
     ensures waiting { (name : Text) → Asks (name ∷ codes "status" ∷ codes "--waiting" ∷ codes "--json" ∷ codes "o" ∷ codes "n" ∷ [])
-        (ask (Waiting Json) [] (codes "o" ∷ codes "n" ∷ [])) }
+        (ask (Status (status_asked Json true false)) [] (codes "o" ∷ codes "n" ∷ [])) }
     ensures legs { (name : Text) → Asks (name ∷ codes "legs" ∷ codes "--json" ∷ codes "o" ∷ codes "n" ∷ [])
         (ask (Legs Json) [] (codes "o" ∷ codes "n" ∷ [])) }
 {}

@@ -16,7 +16,7 @@ mod stream;
 mod task;
 
 pub use form::Form;
-pub use inquiry::{Ask, Inquiry};
+pub use inquiry::{Ask, Inquiry, StatusAsk};
 pub use line::{command, message};
 pub use stream::{Follow, Stream};
 pub use task::{LineFault, Task};

@@ -34,7 +34,7 @@ Example:
   squall check new.json
   squall course old.json new.json
   squall report loaded 1 0 3 2:0 3:0 >board.bin
-  squall status old.json new.json board.bin
+  squall status old.json new.json --board board.bin
   squall run scenario.txt
 
 squall help COMMAND shows the help of a command: squall help run has the lines of a scenario, and

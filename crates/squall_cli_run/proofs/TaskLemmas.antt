@@ -19,7 +19,7 @@ use Rattle.squall_cli_command.specs.Line.{Job, check, course, run, race, ask, st
 use Rattle.squall_cli_ask.specs.Files.{KnownFile, Unknown, Missing, Holds, Opens, BeginsFile, IsWholeFile, is_input}
 use Rattle.squall_cli_ask.specs.Reads.{Bytes, bytes_of, ReadsFrom, ReadsAll}
 use Rattle.squall_cli_ask.specs.Told.{status_of, IsUnread}
-use Rattle.squall_cli_ask.specs.Asked.{files_of}
+use Rattle.squall_cli_ask.specs.Asked.{files_of, GivesAnswer}
 use Rattle.squall_cli_ask.proofs.Matched.{matched_both, matched_true}
 use Rattle.squall_cli_ask.proofs.Inquired.{nothing_inquired}
 use Rattle.squall_cli_ask.proofs.Followed.{nothing_followed, nothing_drawn}
@@ -96,13 +96,17 @@ nothing_done f i o (race name) status e = (Err NoMemory, [], [], e, Appends-nil 
 nothing_done f i o (ask inquiry words files) status e = nothing_inquired inquiry words f i o (files_of inquiry words files) status e
 nothing_done f i o (stream kind files) status e = nothing_followed kind f i o files status e
 
-pub not_ended : (job : Job) (status : ℕ) → 2 < status → EndsInput job status → ⊥
-not_ended (check form name) status l h = omega (arith, h.1)
-not_ended (course form old new) status l h = omega (arith, h.1)
-not_ended (run name) status l h = omega (arith, h.1)
-not_ended (race name) status l h = omega (arith, h.1)
-not_ended (ask inquiry words files) status l h = omega (arith, h.1)
-not_ended (stream kind files) status l h = omega (arith, h)
+no_answer : (status : ℕ) → status ≡ 4 → GivesAnswer status → ⊥
+no_answer status e (inl less) = omega (arith, e, less)
+no_answer status e (inr five) = omega (arith, e, five)
+
+pub not_ended : (job : Job) (status : ℕ) → status ≡ 4 → EndsInput job status → ⊥
+not_ended (check form name) status l h = omega (arith, l, h.1)
+not_ended (course form old new) status l h = omega (arith, l, h.1)
+not_ended (run name) status l h = omega (arith, l, h.1)
+not_ended (race name) status l h = omega (arith, l, h.1)
+not_ended (ask inquiry words files) status l h = no_answer status l h.1
+not_ended (stream kind files) status l h = omega (arith, l, h)
 
 -- ---- promptness
 

@@ -13,7 +13,7 @@ use Rattle.squall_cli_command.specs.Line.{Job, check, course, run, race, ask, st
 use Rattle.squall_cli_ask.specs.Files.{is_input}
 use Rattle.squall_cli_ask.specs.Reads.{Bytes, ReadsFrom, ReadsAll}
 use Rattle.squall_cli_ask.specs.Told.{status_of}
-use Rattle.squall_cli_ask.specs.Asked.{can_be, files_of, IsInquired}
+use Rattle.squall_cli_ask.specs.Asked.{can_be, files_of, GivesAnswer, IsInquired}
 use Rattle.squall_cli_ask.specs.Followed.{IsFollowed, FollowsPromptly, DrawsStream}
 use Rattle.squall_cli_scenario.specs.Text.{IsScript}
 use Rattle.squall_cli_run.specs.Output.{check_in, course_in, IsWritten}
@@ -128,7 +128,7 @@ EndsInput (check form name) status = (is_input name ≡ true) × (status < 2)
 EndsInput (course form old new) status = ((is_input old || is_input new) ≡ true) × (status < 2)
 EndsInput (run name) status = (is_input name ≡ true) × (status ≡ 0)
 EndsInput (race name) status = (is_input name ≡ true) × (status < 2)
-EndsInput (ask inquiry words files) status = (list_any is_input (files_of inquiry words files) ≡ true) × (status < 2)
+EndsInput (ask inquiry words files) status = (list_any is_input (files_of inquiry words files) ≡ true) × GivesAnswer status
 EndsInput (stream kind files) status = status ≡ 0
 
 -- the task reads a file that is not standard input

@@ -1,13 +1,13 @@
 //! What the words of a command line bring about.
 
 ghost use Rattle.std.specs.Prelude.{◌≡◌, ◌≢◌, ◌⊎◌, ◌↔◌, ℕ, List};
-ghost use Rattle.squall_cli_device.specs.States.{SinkState, FoundEnd, NoReadFails, OutputFails, NoWriteFails};
+ghost use Rattle.squall_cli_device.specs.States.{FoundEnd, NoReadFails, OutputFails, NoWriteFails};
 ghost use Rattle.squall_cli_command.specs.Line.{Job, words_of, Asks, AsksForHelp, IsFaulty};
 ghost use Rattle.squall_cli_lines.specs.Heeding.{InputFails, Says};
 ghost use Rattle.squall_cli_ask.specs.Reads.{bytes_at};
-ghost use Rattle.squall_cli_ask.specs.Told.{IsTold};
-ghost use Rattle.squall_cli_run.specs.Tasks.{IsDone, AnswersPromptly, ReadsNoFurther, DrawsByWords, EndsInput, NamesFile, AreBad, ShowsHelp};
-ghost use Rattle.squall_cli_run.specs.Named.{NamesIt};
+ghost use Rattle.squall_cli_ask.specs.Told.{IsNoName, IsTold};
+ghost use Rattle.squall_cli_run.specs.Tasks.{IsDone, AnswersPromptly, ReadsNoFurther, EndsInput, NamesFile, AreBad, ShowsHelp};
+ghost use Rattle.squall_cli_run.specs.Named.{ShowsAndTells};
 
 use crate::output::write_output;
 use crate::tasks::do_task;
@@ -31,7 +31,8 @@ fn show_help<'a, O: Sink, E: Sink>(
     ensures device { result ≡ 3 → OutputFails (O.state out.old) (O.state out.new) }
     ensures taken { result ≢ 2 }
     ensures heeds { result ≢ 3 → NoWriteFails (O.state out.old) (O.state out.new) }
-    ensures told { (text : List ℕ) × IsTold (NamesIt (words_of words.entry.now)) result text × Says (E.state err.old) (E.state err.new) text }
+    ensures unrefused { result ≢ 1 }
+    ensures told { (text : List ℕ) × IsTold IsNoName result text × Says (E.state err.old) (E.state err.new) text }
 {
     let Ok(help) = message(alloc, title, words) else {
         return tell_fault(RunFault::NoMemory, err);
@@ -43,7 +44,7 @@ fn show_help<'a, O: Sink, E: Sink>(
 fn show_fault<'a, E: Sink>(alloc: Global, title: &str, words: &'a [&'a str], err: &mut E) -> u8
     ensures bad { result ≢ 4 → result ≡ 2 }
     ensures device { result ≢ 3 }
-    ensures told { IsFaulty (words_of words.entry.now) → (text : List ℕ) × IsTold (NamesIt (words_of words.entry.now)) result text
+    ensures told { IsFaulty (words_of words.entry.now) → (text : List ℕ) × IsTold IsNoName result text
         × Says (E.state err.old) (E.state err.new) text }
 {
     match message(alloc, title, words) {
@@ -70,14 +71,16 @@ impl Program<'_> {
     /// they come: what one read brings is answered before the next read.
     ///
     /// - 0: the task was done, or `out` has the help or the version that was asked for.
-    /// - 1: the input was refused; `out` says why.
+    /// - 1: the input was refused; `out` says why, or `err` if the command writes frames or a picture.
     /// - 2: the words ask for nothing that there is, or for a report that is none; `err` says why.
     /// - 3: a file can't be opened, a read failed or found no end, or a write failed or took nothing;
     ///   `err` says which.
     /// - 4: an allocation failed, as `err` says.
+    /// - 5: the course that `out` shows is not complete, and the status was to say so.
     ///
-    /// With status 0 or 1 `err` gets no text. If it is a terminal and a course is watched, it shows a bar
-    /// before any text. A write to `err` that fails is the last of the bars or of the text that it is
+    /// With status 0 or 5 `err` gets no text, and with status 1 only a refusal of a command that writes frames
+    /// or a picture, which then writes nothing to `out`. If it is a terminal and a course is watched, it
+    /// shows a bar before any text. A write to `err` that fails is the last of the bars or of the text that it is
     /// part of, and the status stays what it is.
     ///
     /// [`run_text`], [`race_text`], [`check_text`] and [`course_text`] say what `out` has after a fault.
@@ -112,10 +115,9 @@ impl Program<'_> {
             ⊎ (OutputFails (O.state out.old) (O.state out.new) ⊎ ((job : Job) × Asks (words_of words.entry.now) job × NamesFile job)) }
         // A read of standard input that failed gives status 3, and so does a write to `out` that failed or took nothing.
         ensures heeds { result ≢ 3 → NoReadFails (S.state input.old) (S.state input.new) × NoWriteFails (O.state out.old) (O.state out.new) }
-        // `err` gets the bars of a course that is watched, if it is a terminal, and then the text that goes with the status, if no write fails.
-        ensures told { (drawn : SinkState) × DrawsByWords (words_of words.entry.now) (E.terminal err.old)
-            (bytes_at (F.known files.old) (S.state input.old) (O.state out.old)) (bytes_at (F.known files.new) (S.state input.new) (O.state out.new))
-            result (E.state err.old) drawn × (text : List ℕ) × IsTold (NamesIt (words_of words.entry.now)) result text × Says drawn (E.state err.new) text }
+        // `err` gets the bars of a course that is watched, if it is a terminal, and then a refusal or the text that goes with the status, if no write fails.
+        ensures told { ShowsAndTells (words_of words.entry.now) (E.terminal err.old) (bytes_at (F.known files.old) (S.state input.old) (O.state out.old))
+            (bytes_at (F.known files.new) (S.state input.new) (O.state out.new)) result (E.state err.old) (E.state err.new) }
         // Unless an allocation failed, status 2 comes exactly for bad words,
         ensures bad { result ≢ 4 → (result ≡ 2) ↔ AreBad (words_of words.entry.now) }
         // and help that is asked for is written, whole at status 0.

@@ -11,7 +11,7 @@ ghost use Rattle.squall_cli_lines.specs.Script.{IsPrompt};
 ghost use Rattle.squall_cli_scenario.specs.Text.{IsScript};
 ghost use Rattle.squall_cli_run.specs.Tasks.{ShowsCourseWith, IsDone, DrawsFor, EndsInput, NamesFile, CannotBe};
 ghost use Rattle.squall_cli_run.specs.Tasks.{AnswersPromptly, StopsAtBadLine, ReadsNoFurther};
-ghost use Rattle.squall_cli_run.specs.Named.{IsNamed};
+ghost use Rattle.squall_cli_run.specs.Named.{IsNamed, IsToldFor};
 ghost use Rattle.squall_cli_run.specs.Sources.{IsAnswered, NeedsAll, IsDoneBy};
 
 use crate::check::check_source;
@@ -19,7 +19,8 @@ use crate::course::course_text;
 use crate::race::race_text;
 use crate::run_text;
 use squall_cli_ask::{
-    Files, answer_inquiry, answer_stream, read_named, tell_outcome, tell_unopened,
+    Files, answer_inquiry, answer_stream, read_named, tell_file_outcome, tell_outcome,
+    tell_unopened,
 };
 use squall_cli_command::{Form, Task};
 use squall_cli_device::{Sink, Source};
@@ -91,7 +92,10 @@ fn answer_file<R: Threads + Wait + Sync, F: Files, S: Source, O: Sink, E: Sink>(
         return tell_outcome(answer_source(rt, alloc, purpose, input, out), err);
     }
     match files.open(name) {
-        Some(mut file) => tell_outcome(answer_source(rt, alloc, purpose, &mut file, out), err),
+        Some(mut file) => {
+            let outcome = answer_source(rt, alloc, purpose, &mut file, out);
+            tell_file_outcome(name, outcome, err)
+        }
         None => tell_unopened(name, err),
     }
 }
@@ -159,7 +163,8 @@ pub(crate) fn do_task<R: Threads + Wait + Sync, F: Files, S: Source, O: Sink, E:
     ensures heeds { result ≢ 3 → NoReadFails (S.state input.old) (S.state input.new) × NoWriteFails (O.state out.old) (O.state out.new) }
     ensures told { (drawn : SinkState) × DrawsFor (job_seen task.now) (E.terminal err.old) (bytes_at (F.known files.old) (S.state input.old) (O.state out.old))
         (bytes_at (F.known files.new) (S.state input.new) (O.state out.new)) result (E.state err.old) drawn
-        × (text : List ℕ) × IsTold (IsNamed (job_seen task.now)) result text × Says drawn (E.state err.new) text }
+        × (text : List ℕ) × IsToldFor (job_seen task.now) (bytes_at (F.known files.old) (S.state input.old) (O.state out.old))
+        (bytes_at (F.known files.new) (S.state input.new) (O.state out.new)) result text × Says drawn (E.state err.new) text }
 {
     let file = match task {
         Task::Check(form, plan) => (Purpose::Check(*form), plan.as_str()),

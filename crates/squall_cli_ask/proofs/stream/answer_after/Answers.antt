@@ -8,7 +8,7 @@ use Rattle.squall_cli_ask.specs.Files.{is_input}
 use Rattle.squall_cli_ask.specs.Reads.{bytes_at}
 use Rattle.squall_cli_ask.specs.Told.{IsTold, outcome_told}
 use Rattle.squall_cli_ask.specs.Gathered.{AreRead}
-use Rattle.squall_cli_ask.specs.Followed.{files_followed, IsPromptTo, IsDrawnFor, DrawsStream}
+use Rattle.squall_cli_ask.specs.Followed.{files_followed, IsPromptTo, IsDrawnFor}
 use Rattle.squall_cli_ask.proofs.Followed.{unread_undrawn}
 use Rattle.squall_cli_ask.proofs.stream.answer_after.Goals as goal
 

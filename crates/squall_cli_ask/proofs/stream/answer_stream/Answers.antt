@@ -1,4 +1,4 @@
-use Rattle.std.proofs.Common.{inr, rules, arith}
+use Rattle.std.proofs.Common.{inl, inr, rules, arith}
 use Rattle.squall_cli_ask.specs.Reads.{bytes_at}
 use Rattle.squall_cli_ask.specs.Told.{input_taken_told}
 use Rattle.squall_cli_ask.specs.Followed.{files_followed}
@@ -12,6 +12,6 @@ returns-then-names_input-clause-told g c =
       nothing_drawn c.args.follow.now.stream (g.E.Sink.terminal c.args.err.now) here here (files_followed c.args.follow.now) c.tell_input_taken.result (g.E.Sink.state c.args.err.now)
           (omega (arith, c.tell_input_taken.ensures.status)),
       input_taken_told,
-      inr (inr (c.tell_input_taken.ensures.status, search rules)),
+      inr (inr (inl (c.tell_input_taken.ensures.status, search rules))),
       c.tell_input_taken.ensures.told,
     )

@@ -1,14 +1,7 @@
-use Rattle.std.proofs.Common.{ap, ap₂, ◌∙◌, ◌||◌}
+use Rattle.std.proofs.Common.{ap}
 use Rattle.std.proofs.lemmas.Result.{IfOk-weaker}
-use Rattle.clap.specs.Words.{App, with_rule}
+use Rattle.clap.specs.Words.{App}
 use Rattle.squall_cli_command.proofs.courses.picture_command.Goals as goal
 
 pub returns-clause-shape : goal.returns-clause-shape
-returns-clause-shape c =
-    IfOk-weaker c.arg.result _ _
-    (λ r h. ap (λ (a : App). a.top) (h.shape c.files.ensures.global ∙ ap₂ with_rule c.in_ok-of_plans.ensures.app c.files.ensures.rule)) c.arg.ensures
-
-pub returns-clause-globals : goal.returns-clause-globals
-returns-clause-globals c =
-    IfOk-weaker c.arg.result _ _
-    (λ r h. h.globals ∙ ap₂ ◌||◌ c.in_ok-of_plans.ensures.globals c.files.ensures.global) c.arg.ensures
+returns-clause-shape c = IfOk-weaker c.of_boards.result _ _ (λ r h. ap (λ (a : App). a.top) h) c.of_boards.ensures.app

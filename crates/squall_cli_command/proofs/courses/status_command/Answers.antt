@@ -5,13 +5,13 @@ use Rattle.squall_cli_command.proofs.courses.status_command.Goals as goal
 
 pub returns-clause-shape : goal.returns-clause-shape
 returns-clause-shape c =
-    let first = c.in_ok-arg.ensures.shape c.files.ensures.global ∙ ap₂ with_rule c.in_ok-of_plans.ensures.app c.files.ensures.rule in
-    let second = c.in_ok-arg-2.ensures.shape c.flag.ensures.global ∙ ap₂ with_rule first c.flag.ensures.rule in
+    let first = c.in_ok-arg.ensures.shape c.flag.ensures.global ∙ ap₂ with_rule c.in_ok-of_boards.ensures.app c.flag.ensures.rule in
+    let second = c.in_ok-arg-2.ensures.shape c.json.ensures.global ∙ ap₂ with_rule first c.json.ensures.rule in
     IfOk-weaker c.arg-3.result _ _
-    (λ r h. ap (λ (a : App). a.top) (h.shape c.json.ensures.global ∙ ap₂ with_rule second c.json.ensures.rule)) c.arg-3.ensures
+    (λ r h. ap (λ (a : App). a.top) (h.shape c.flag-2.ensures.global ∙ ap₂ with_rule second c.flag-2.ensures.rule)) c.arg-3.ensures
 
 pub returns-clause-globals : goal.returns-clause-globals
 returns-clause-globals c =
-    let first = c.in_ok-arg.ensures.globals ∙ ap₂ ◌||◌ c.in_ok-of_plans.ensures.globals c.files.ensures.global in
-    let second = c.in_ok-arg-2.ensures.globals ∙ ap₂ ◌||◌ first c.flag.ensures.global in
-    IfOk-weaker c.arg-3.result _ _ (λ r h. h.globals ∙ ap₂ ◌||◌ second c.json.ensures.global) c.arg-3.ensures
+    let first = c.in_ok-arg.ensures.globals ∙ ap₂ ◌||◌ c.in_ok-of_boards.ensures.globals c.flag.ensures.global in
+    let second = c.in_ok-arg-2.ensures.globals ∙ ap₂ ◌||◌ first c.json.ensures.global in
+    IfOk-weaker c.arg-3.result _ _ (λ r h. h.globals ∙ ap₂ ◌||◌ second c.flag-2.ensures.global) c.arg-3.ensures

@@ -9,3 +9,7 @@ returns-clause-route c = λ name. (refl, refl)
 pub returns-clause-legs : goal.returns-clause-legs
 unfolding clap_on_literals
 returns-clause-legs c = λ name. (refl, refl)
+
+pub returns-clause-status : goal.returns-clause-status
+unfolding clap_on_literals
+returns-clause-status c = λ name. (refl, refl)

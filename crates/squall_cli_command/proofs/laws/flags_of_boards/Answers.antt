@@ -10,6 +10,10 @@ pub returns-clause-waiting : goal.returns-clause-waiting
 unfolding clap_on_literals
 returns-clause-waiting c = λ name. (refl, refl)
 
+pub returns-clause-judged : goal.returns-clause-judged
+unfolding clap_on_literals
+returns-clause-judged c = λ name. (refl, refl)
+
 pub returns-clause-beyond : goal.returns-clause-beyond
 unfolding clap_on_literals
 returns-clause-beyond c = λ name. (refl, refl)

@@ -17,12 +17,12 @@ returns-then-eq-clause-done g c =
 
 pub returns-in-Some-clause-done : goal.returns-in-Some-clause-done
 returns-in-Some-clause-done g c =
-    let read = c.answer_source-in-Some.ensures in
+    let read = c.answer_source-outcome.ensures in
     let named = sym c.eq.ensures ∙ c.if-eq.false in
     let known = g.F.Files.known c.args.files.now c.args.file.1.now in
     let bytes = (g.F.File.Source.state c.in-Some.file).remaining in
-    let left = (g.F.File.Source.state c.answer_source-in-Some.new.source).remaining in
-    answered c.args.file.0 (g.F.Files.known c.args.files.now) (g.F.Files.known c.open.new.self) (g.S.Source.state c.args.input.now).remaining (g.S.Source.state c.args.input.now).remaining (g.O.Sink.state c.args.out.now).contents (g.O.Sink.state c.answer_source-in-Some.new.out).contents c.args.file.1.now read.text.0 read.text.1 c.answer_source-in-Some.result c.tell_outcome-in-Some.result c.tell_outcome-in-Some.ensures.status
+    let left = (g.F.File.Source.state c.answer_source-outcome.new.source).remaining in
+    answered c.args.file.0 (g.F.Files.known c.args.files.now) (g.F.Files.known c.open.new.self) (g.S.Source.state c.args.input.now).remaining (g.S.Source.state c.args.input.now).remaining (g.O.Sink.state c.args.out.now).contents (g.O.Sink.state c.answer_source-outcome.new.out).contents c.args.file.1.now read.text.0 read.text.1 c.answer_source-outcome.result c.tell_file_outcome.result c.tell_file_outcome.ensures.status
     read.text.3 read.text.4 (matched_false (is_input c.args.file.1.now) _ _ named (opened_begins known bytes left read.text.0 c.in-Some.ensures.opens read.text.2))
     (λ needs. matched_false (is_input c.args.file.1.now) _ _ named (opened_whole known bytes left read.text.0 c.in-Some.ensures.opens read.text.2 (read.all needs).1))
 

@@ -5,14 +5,13 @@ use Rattle.squall_cli_device.specs.States.{OutputFails}
 use Rattle.squall_cli_lines.specs.Heeding.{InputFails}
 use Rattle.squall_cli_command.specs.declared.form.Form.TheVariants.{Lines}
 use Rattle.squall_cli_command.specs.Line.{course, job_seen}
-use Rattle.squall_cli_ask.specs.Asked.{files_asked}
 use Rattle.squall_cli_ask.specs.Followed.{files_followed}
 use Rattle.squall_cli_ask.specs.Reads.{bytes_at}
 use Rattle.squall_cli_run.specs.Tasks.{AnswersPromptly, ReadsNoFurther, DrawsFor, NamesFile}
 use Rattle.squall_cli_run.specs.declared.tasks.Purpose.{Purpose}
-use Rattle.squall_cli_run.specs.Named.{IsNamed}
+use Rattle.squall_cli_run.specs.Named.{IsNamed, IsToldFor}
 use Rattle.squall_cli_ask.proofs.Telling.{told_of}
-use Rattle.squall_cli_run.proofs.Telling.{named_check, named_course, named_run, named_race}
+use Rattle.squall_cli_run.proofs.Telling.{named_check, named_course, named_run, named_race, told_check, told_course, told_run, told_race}
 use Rattle.squall_cli_run.proofs.TaskLemmas.{run_promptly, run_stops, undrawn_check, undrawn_course, undrawn_run, undrawn_race}
 use Rattle.squall_cli_run.proofs.tasks.do_task.Goals.{in-Check, in-Run, in-Race}
 use Rattle.squall_cli_run.proofs.tasks.do_task.Goals as goal
@@ -20,12 +19,15 @@ use Rattle.squall_cli_run.proofs.tasks.do_task.Goals as goal
 pub returns-in-Course-clause-told : goal.returns-in-Course-clause-told
 returns-in-Course-clause-told g c =
     let t = c.course_files.ensures.told in
-    let e = g.E.Sink.state c.args.err.now in (
+    let e = g.E.Sink.state c.args.err.now in
+    let job = job_seen c.args.task.now in
+    let before = bytes_at (g.F.Files.known c.args.files.now) (g.S.Source.state c.args.input.now) (g.O.Sink.state c.args.out.now) in
+    let after = bytes_at (g.F.Files.known c.course_files.new.files) (g.S.Source.state c.course_files.new.input) (g.O.Sink.state c.course_files.new.out) in (
       e,
-      undrawn_course (g.E.Sink.terminal c.args.err.now) (bytes_at (g.F.Files.known c.args.files.now) (g.S.Source.state c.args.input.now) (g.O.Sink.state c.args.out.now))
-          (bytes_at (g.F.Files.known c.course_files.new.files) (g.S.Source.state c.course_files.new.input) (g.O.Sink.state c.course_files.new.out)) c.course_files.result e (job_seen c.args.task.now) _ _ _ (ap job_seen c.in-Course.is),
+      undrawn_course (g.E.Sink.terminal c.args.err.now) before after c.course_files.result e job _ _ _ (ap job_seen c.in-Course.is),
       t.0,
-      told_of (IsNamed (course Lines c.as_str-old.result.now c.as_str-new.result.now)) (IsNamed (job_seen c.args.task.now)) c.course_files.result t.0 (named_course (job_seen c.args.task.now) _ _ _ _ _ (ap job_seen c.in-Course.is) c.as_str-old.ensures.value c.as_str-new.ensures.value) t.1,
+      told_course job before after c.course_files.result t.0 _ _ _ (ap job_seen c.in-Course.is)
+          (told_of (IsNamed (course Lines c.as_str-old.result.now c.as_str-new.result.now)) (IsNamed job) c.course_files.result t.0 (named_course job _ _ _ _ _ (ap job_seen c.in-Course.is) c.as_str-old.ensures.value c.as_str-new.ensures.value) t.1),
       t.2,
     )
 
@@ -43,8 +45,9 @@ returns-in-Ask-clause-told g c =
           (bytes_at (g.F.Files.known c.answer_inquiry.new.files) (g.S.Source.state c.answer_inquiry.new.input) (g.O.Sink.state c.answer_inquiry.new.out)) c.answer_inquiry.result e e)
           (sym (ap job_seen c.in-Ask.is)) refl,
       t.0,
-      told_of (Contains (files_asked c.in-Ask.ask)) (IsNamed (job_seen c.args.task.now)) c.answer_inquiry.result t.0
-          (λ name. subst (λ j. IsNamed j name) (sym (ap job_seen c.in-Ask.is))) t.1,
+      subst (λ j. IsToldFor j (bytes_at (g.F.Files.known c.args.files.now) (g.S.Source.state c.args.input.now) (g.O.Sink.state c.args.out.now))
+          (bytes_at (g.F.Files.known c.answer_inquiry.new.files) (g.S.Source.state c.answer_inquiry.new.input) (g.O.Sink.state c.answer_inquiry.new.out)) c.answer_inquiry.result t.0)
+          (sym (ap job_seen c.in-Ask.is)) t.1,
       t.2,
     )
 
@@ -61,8 +64,9 @@ returns-in-Stream-clause-told g c =
           (bytes_at (g.F.Files.known c.answer_stream.new.files) (g.S.Source.state c.answer_stream.new.input) (g.O.Sink.state c.answer_stream.new.out)) c.answer_stream.result
           (g.E.Sink.state c.args.err.now) t.0) (sym (ap job_seen c.in-Stream.is)) t.1,
       t.2,
-      told_of (Contains (files_followed c.in-Stream.follow)) (IsNamed (job_seen c.args.task.now)) c.answer_stream.result t.2
-          (λ name. subst (λ j. IsNamed j name) (sym (ap job_seen c.in-Stream.is))) t.3,
+      subst (λ j. IsToldFor j (bytes_at (g.F.Files.known c.args.files.now) (g.S.Source.state c.args.input.now) (g.O.Sink.state c.args.out.now))
+          (bytes_at (g.F.Files.known c.answer_stream.new.files) (g.S.Source.state c.answer_stream.new.input) (g.O.Sink.state c.answer_stream.new.out)) c.answer_stream.result t.2)
+          (sym (ap job_seen c.in-Stream.is)) (told_of (Contains (files_followed c.in-Stream.follow)) (Contains (files_followed c.in-Stream.follow)) c.answer_stream.result t.2 (λ name named. named) t.3),
       t.4,
     )
 
@@ -136,4 +140,10 @@ returns-clause-told g c =
       | in-Run w ↦ undrawn_run terminal before after c.answer_file.result e job _ (ap job_seen w.in-Run.is)
       | in-Race w ↦ undrawn_race terminal before after c.answer_file.result e job _ (ap job_seen w.in-Race.is)
     ] in
-    (e, undrawn, t.0, told_of (λ name. name ≡ c.match-task.file.1.now) (IsNamed job) c.answer_file.result t.0 named t.1, t.2)
+    let told = told_of (λ name. name ≡ c.match-task.file.1.now) (IsNamed job) c.answer_file.result t.0 named t.1 in
+    let told_for : IsToldFor job before after c.answer_file.result t.0 = elim c.match-task.branch [
+      | in-Check w ↦ told_check job before after c.answer_file.result t.0 _ _ (ap job_seen w.in-Check.is) told
+      | in-Run w ↦ told_run job before after c.answer_file.result t.0 _ (ap job_seen w.in-Run.is) told
+      | in-Race w ↦ told_race job before after c.answer_file.result t.0 _ (ap job_seen w.in-Race.is) told
+    ] in
+    (e, undrawn, t.0, told_for, t.2)

@@ -3,9 +3,8 @@ use Rattle.squall_cli_lines.specs.declared.RunFault.TheVariants.{NoMemory}
 use Rattle.squall_cli_ask.specs.Reads.{bytes_at}
 use Rattle.squall_cli_ask.specs.Told.{fault_told}
 use Rattle.squall_cli_run.specs.Tasks.{AnswersPromptly, ReadsNoFurther}
-use Rattle.squall_cli_run.specs.Named.{IsNamed, NamesIt}
-use Rattle.squall_cli_run.proofs.TaskLemmas.{nothing_done, nothing_promptly, device_of_words, help_unwritten, drawn_for_words, undrawn_unasked, no_help, no_fault, one_job}
-use Rattle.squall_cli_ask.proofs.Telling.{told_of}
+use Rattle.squall_cli_run.proofs.TaskLemmas.{nothing_done, not_ended, nothing_promptly, device_of_words, help_unwritten, drawn_for_words, undrawn_unasked, no_help, no_fault, one_job}
+use Rattle.squall_cli_run.proofs.Telling.{fault_unrefused}
 use Rattle.squall_cli_command.specs.Line.{words_of, job_seen}
 use Rattle.squall_cli_run.proofs.program.Program.perform.Goals as goal
 
@@ -32,7 +31,7 @@ returns-in-Ok-clause-told g c =
           (bytes_at (g.F.Files.known c.do_task.new.files) (g.S.Source.state c.do_task.new.input) (g.O.Sink.state c.do_task.new.out)) c.do_task.result (g.E.Sink.state c.args.err.now) t.0
           c.in-Ok.ensures.task t.1,
       t.2,
-      told_of (IsNamed (job_seen c.in-Ok.task)) (NamesIt (words_of c.args.words.now)) c.do_task.result t.2 (λ name named. (job_seen c.in-Ok.task, c.in-Ok.ensures.task, named)) t.3,
+      inl (job_seen c.in-Ok.task, c.in-Ok.ensures.task, t.3),
       t.4,
     )
 
@@ -40,13 +39,13 @@ pub returns-in-Err-Help-clause-told : goal.returns-in-Err-Help-clause-told
 returns-in-Err-Help-clause-told g c =
     let asks = (c.in-Err-Help.ensures.help (λ e. cc)).0 (rw c.in-Err-Help.field-0-is refl) in
     let t = c.show_help.ensures.told in
-    (g.E.Sink.state c.args.err.now, ((λ job also. absurd (no_help (words_of c.args.words.now) job also asks)), inl refl), t.0, t.1, t.2)
+    (g.E.Sink.state c.args.err.now, ((λ job also. absurd (no_help (words_of c.args.words.now) job also asks)), inl refl), t.0, inr (c.show_help.ensures.unrefused, t.1), t.2)
 
 pub returns-in-Err-Bad-clause-told : goal.returns-in-Err-Bad-clause-told
 returns-in-Err-Bad-clause-told g c =
     let faulty = (c.in-Err-Bad.ensures.refused (λ e. cc)).0 (rw c.in-Err-Bad.field-0-is refl) in
     let t = c.show_fault.ensures.told faulty in
-    (g.E.Sink.state c.args.err.now, ((λ job also. absurd (no_fault (words_of c.args.words.now) job also faulty)), inl refl), t.0, t.1, t.2)
+    (g.E.Sink.state c.args.err.now, ((λ job also. absurd (no_fault (words_of c.args.words.now) job also faulty)), inl refl), t.0, inr (fault_unrefused c.show_fault.result c.show_fault.ensures.bad, t.1), t.2)
 
 pub returns-in-Err-Help-clause-device : goal.returns-in-Err-Help-clause-device
 returns-in-Err-Help-clause-device g c = λ e. inr (inl (c.show_help.ensures.device e))
@@ -67,4 +66,7 @@ pub returns-in-Err-NoMemory-clause-help : goal.returns-in-Err-NoMemory-clause-he
 returns-in-Err-NoMemory-clause-help g c = λ _. help_unwritten c.args.self.now.title.now (g.O.Sink.state c.args.out.now) c.tell_fault.result c.tell_fault.ensures.status
 
 pub returns-in-Err-NoMemory-clause-told : goal.returns-in-Err-NoMemory-clause-told
-returns-in-Err-NoMemory-clause-told g c = (g.E.Sink.state c.args.err.now, ((λ job asks. undrawn_unasked _ _ _ c.tell_fault.result (g.E.Sink.state c.args.err.now) c.tell_fault.ensures.status job), inl refl), fault_told NoMemory, inl (Err NoMemory, c.tell_fault.ensures.status, refl), c.tell_fault.ensures.told)
+returns-in-Err-NoMemory-clause-told g c = (g.E.Sink.state c.args.err.now, ((λ job asks. undrawn_unasked _ _ _ c.tell_fault.result (g.E.Sink.state c.args.err.now) c.tell_fault.ensures.status job), inl refl), fault_told NoMemory, inr ((λ one. omega (arith, c.tell_fault.ensures.status, one)), inl (Err NoMemory, c.tell_fault.ensures.status, refl)), c.tell_fault.ensures.told)
+
+pub returns-in-Err-NoMemory-clause-ended : goal.returns-in-Err-NoMemory-clause-ended
+returns-in-Err-NoMemory-clause-ended g c = λ job asks ended. absurd (not_ended job c.tell_fault.result c.tell_fault.ensures.status ended)
