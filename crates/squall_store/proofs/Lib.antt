@@ -3,3 +3,4 @@ mod Called
 mod Firsts
 mod Standing
 mod Systems
+pub mod Listed

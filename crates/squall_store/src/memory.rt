@@ -1,6 +1,7 @@
 //! Rows in memory.
 
-ghost use Rattle.std.specs.Prelude.{◌≡◌, ℕ, ◌≤◌, ◌<◌, true, false, [], Some, IfOk, IfSome, IfNone, OnOk};
+ghost use Rattle.std.specs.Prelude.{◌≡◌, ℕ, ◌≤◌, ◌<◌, ◌++◌, ◌∷◌, true, false, [], None, Some, IfOk, IfSome, IfNone, OnOk};
+ghost use Rattle.squall_key.specs.Keys.{top};
 ghost use Rattle.squall_span.specs.Spans.{span_has};
 ghost use Rattle.squall_store.specs.Memory.{value_at, run_on, IsEmptyFrom, AreAlikeFrom, AreAlikeBeside};
 
@@ -32,6 +33,25 @@ impl Model for MemoryRows {
     ghost Value = { Values };
 
     ghost view = { λ r. r.values.entries };
+}
+
+/// The key of a rank.
+fn key_of(rank: u64) -> Key
+    requires { rank < top }
+    ensures { result ≡ rank }
+{
+    match Key::of_rank(rank) {
+        Some(key) => key,
+        None => unreachable!(),
+    }
+}
+
+/// Adds a value at the end. An error means that an allocation failed.
+fn push_value(values: &mut Vec<(Key, Bytes)>, key: Key, value: Bytes) -> Result<(), AllocError>
+    ensures { OnOk result (values.new.items ≡ values.old.items ++ ((key, value) ∷ [])) }
+{
+    values.push((key, value))?;
+    Ok(())
 }
 
 impl MemoryRows {
@@ -86,6 +106,22 @@ impl MemoryRows {
             at = key + 1;
         }
         Ok(())
+    }
+
+    /// Copies of the values of a span's keys, in the keys' order. So rows are sent, or written to a
+    /// log. An error means that an allocation failed.
+    pub fn listed(&self, span: Span) -> Result<Vec<(Key, Bytes)>, AllocError>
+        ensures inside { IfOk result (λ values. (k : ℕ) → span_has span k ≡ true → value_at values.items k ≡ value_at self.now k) }
+        ensures outside { IfOk result (λ values. (k : ℕ) → span_has span k ≡ false → value_at values.items k ≡ None) }
+    {
+        let (mut at, to) = (span.lo().rank(), span.hi().rank());
+        let mut values = Vec::new(self.alloc);
+        while let Some((key, value)) = self.first_in(at, to) {
+            let value = value.copied(self.alloc)?;
+            push_value(&mut values, key_of(key), value)?;
+            at = key + 1;
+        }
+        Ok(values)
     }
 
     /// Puts other rows in place of its own for the keys of a span. After an error these keys may have
