@@ -4,6 +4,7 @@ pub use Rattle.squall_wire.specs.Messages
 pub use Rattle.squall_replay.specs.Calls
 pub use Rattle.squall_store.specs.Stores
 pub use Rattle.squall_store.specs.Systems
+pub use Rattle.squall_cli_device.specs.States
 pub use Rattle.squall_log.specs.Entries
 pub mod Records
 pub mod RecordLaws

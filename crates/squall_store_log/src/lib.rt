@@ -3,6 +3,7 @@
 
 mod answer;
 mod batch;
+mod disk;
 mod fault;
 mod fields;
 pub mod laws;
@@ -17,6 +18,7 @@ mod rows;
 mod writing;
 
 pub use answer::{Answer, MakeFault};
+pub use disk::Disk;
 pub use fault::ReadFault;
 pub use listed::Listed;
 pub use logged::LoggedStore;

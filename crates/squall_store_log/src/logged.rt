@@ -1,19 +1,27 @@
 //! A store with a log on disk.
 
-ghost use Rattle.std.specs.Prelude.{◌≡◌, ◌++◌, ◌≤◌, [], length, IfOk, IfErr, OnOk, OnErr};
+ghost use Rattle.std.specs.Prelude.{◌≡◌, ◌++◌, ◌≤◌, [], ℕ, true, length, IfOk, IfErr, OnOk, OnErr};
+ghost use Rattle.squall_cli_device.specs.States.{TookBytes};
 ghost use Rattle.squall_log.specs.Entries.{payload_limit, entry};
+ghost use Rattle.squall_span.specs.Spans.{has, span_has};
+ghost use Rattle.squall_store.specs.Memory.{value_at};
 ghost use Rattle.squall_store_log.specs.Records.{spell_record, Fits};
-ghost use Rattle.squall_store_log.specs.Steps.{IsAlike, Makes, Declines, IsRecord, changes, logged_by};
+ghost use Rattle.squall_store_log.specs.Steps.{IsAlike, IsNotHeld, Makes, Declines, IsRecord, changes, logged_by};
 
 use crate::answer::{Answer, MakeFault};
-use crate::make::make;
+use crate::disk::Disk;
+use crate::listed::Listed;
+use crate::make::{make, set};
 use crate::record::Record;
 use crate::writing::payload_of;
+use squall_cli_device::DeviceFault;
+use squall_cli_lines::send;
+use squall_key::Key;
 use squall_log::{LogFault, push_entry};
-use squall_part::Part;
+use squall_protocol::Chunk;
 use squall_replay::Answer as PartAnswer;
-use squall_store::{MemoryRows, Store};
-use std::alloc::Global;
+use squall_store::{Bytes, Command, MemoryRows, Store};
+use std::alloc::{AllocError, Global};
 use std::marker::Model;
 
 /// A partition with its rows in memory and a log. Each call that changes it adds its record to the
@@ -76,6 +84,26 @@ impl LoggedStore {
         self.waiting.as_slice()
     }
 
+    /// A copy of the value of a key, if the partition holds the key. `after` is as in `call`. It adds
+    /// no record.
+    pub fn get(&mut self, key: Key, after: u32) -> Result<Option<Bytes>, MakeFault>
+        ensures held { OnOk result (has self.old.store.part.held key ≡ true) }
+        ensures row { IfOk result (λ row. row ≡ value_at self.old.store.rows key) }
+        ensures fault { IfErr result (λ f. IsNotHeld self.old.store.part key after f) }
+        ensures waiting { self.new.waiting ≡ self.old.waiting }
+        ensures store { IsAlike self.old.store self.new.store }
+    {
+        set(&mut self.store, key, after, &Command::Get)
+    }
+
+    /// Copies of the rows that travel with a chunk.
+    pub fn rows_of(&self, chunk: &Chunk) -> Result<Listed, AllocError>
+        ensures { IfOk result (λ rows. (k : ℕ) → span_has chunk.now.span k ≡ true → value_at rows k ≡ value_at self.now.store.rows k) }
+    {
+        let rows = self.store.rows().listed(chunk.span())?;
+        Ok(Listed { rows })
+    }
+
     /// Makes the call of a record, and adds the record to what waits if the call changed the store.
     /// `after` is the number of the last move that a client followed, or 0.
     ///
@@ -101,11 +129,22 @@ impl LoggedStore {
         made
     }
 
-    /// Forgets what waits: the host has written it to its log.
-    pub fn written(&mut self)
-        ensures waiting { self.new.waiting ≡ [] }
+    /// Writes what waits to the disk, and makes it durable if that is asked for. Then nothing waits.
+    /// Nothing may be answered to a client before its record was flushed.
+    ///
+    /// After a fault all of it waits still, and the disk has a part of it: what was torn there is cut
+    /// when the log is opened. So the host opens the log again.
+    pub fn flush<K: Disk>(&mut self, disk: &mut K, durable: bool) -> Result<(), DeviceFault>
+        ensures took { OnOk result (TookBytes (K.state disk.old) (K.state disk.new) self.old.waiting) }
+        ensures empty { OnOk result (self.new.waiting ≡ []) }
+        ensures err { OnErr result (self.new.waiting ≡ self.old.waiting) }
         ensures store { self.new.store ≡ self.old.store }
     {
+        send(disk, &self.waiting)?;
+        if durable {
+            disk.sync()?;
+        }
         self.waiting.clear();
+        Ok(())
     }
 }

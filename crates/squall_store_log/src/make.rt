@@ -20,7 +20,7 @@ use squall_store::{Asked, Bytes, Command, MemoryRows, Store};
 use std::alloc::Global;
 
 /// Does a command that sets the row of a key.
-fn set(
+pub(crate) fn set(
     store: &mut Store<MemoryRows>,
     key: Key,
     after: u32,
