@@ -29,9 +29,8 @@ impl Listed {
     pub fn new(alloc: Global) -> Listed
         ensures { result ≡ [] }
     {
-        Listed {
-            rows: Vec::new(alloc),
-        }
+        let rows = Vec::new(alloc);
+        Listed { rows }
     }
 
     /// Adds the value of a key at the end. After an error the list is unchanged.

@@ -1,7 +1,8 @@
 //! The call of a record: one function for new calls and for those of a log.
 
 ghost use Rattle.std.specs.Prelude.{◌≡◌, ℕ, Some, None, IfOk, IfErr, OnErr};
-ghost use Rattle.squall_replay.specs.declared.call.Call.TheVariants.{Absorb as AbsorbCall, Give as GiveCall, GiveAt as GiveAtCall, Load as LoadCall, Finish as FinishCall, Close as CloseCall};
+ghost use Rattle.squall_replay.specs.declared.call.Call.TheVariants.{Absorb as AbsorbCall, Give as GiveCall, GiveAt as GiveAtCall};
+ghost use Rattle.squall_replay.specs.declared.call.Call.TheVariants.{Load as LoadCall, Finish as FinishCall, Close as CloseCall};
 ghost use Rattle.squall_store.specs.Memory.{value_at, run_on};
 ghost use Rattle.squall_store_log.specs.Records.{Fits};
 ghost use Rattle.squall_store_log.specs.Steps.{IsAlike, Sets, Calls, Loads, Makes, IsNotHeld, IsRefused, Declines, part_of, row_of};
