@@ -1,19 +1,16 @@
 -- A log that is read record by record, and one that was cut off.
-use Rattle.std.proofs.Common.{◌≡◌, ℕ, ◌+◌, ◌<◌, ◌≤◌, List, [], ◌∷◌, ◌++◌, length, take, map, refl, sym, ap, subst, ◌∙◌, append_assoc, arith, length-append, ◌-◌}
-use Rattle.std.specs.Prelude.{◌≢◌}
+use Rattle.std.proofs.Common.{◌≡◌, ℕ, ◌<◌, ◌≤◌, List, [], ◌∷◌, ◌++◌, length, take, map, refl, sym, ap, subst, ◌∙◌, append_assoc, arith, length-append, ◌-◌}
 use Rattle.std.specs.List.{AllByRecursion}
 use Rattle.std.proofs.lemmas.List.{append-nil}
 use Rattle.squall_log.specs.declared.entry.End.{End}
-use Rattle.squall_log.specs.declared.entry.End.TheVariants.{Damaged}
-use Rattle.squall_log.specs.Entries.{payload_limit, entry, entries, EndsIn, IsRead, IsCut}
+use Rattle.squall_log.specs.Entries.{payload_limit, entry, entries, EndsIn, IsRead}
 use Rattle.squall_log.specs.EntryLaws.{entry_length, a_cut_log}
 use Rattle.squall_part.specs.Parts.{PartValue, IsPart}
 use Rattle.squall_replay.specs.Calls.{IsSamePart}
 use Rattle.squall_store_log.specs.declared.record.Record.{Record}
-use Rattle.squall_store_log.specs.declared.answer.Answer.{Answer}
-use Rattle.squall_store_log.specs.Records.{spell_record, Fits}
+use Rattle.squall_store_log.specs.Records.{spell_record}
 use Rattle.squall_store_log.specs.RecordLaws.{one_record, all-push}
-use Rattle.squall_store_log.specs.Steps.{Rows, first_store, IsAlike, IsSameStore, Makes, Comes, IsRecord, spell_log, Wrote, IsStep, IsOpened, IsAfterCut}
+use Rattle.squall_store_log.specs.Steps.{Rows, first_store, Comes, IsRecord, spell_log, Wrote, IsStep, IsOpened, IsAfterCut}
 use Rattle.squall_store_log.proofs.Alike.{alike_itself, comes_on, comes_by, OnePartition, AreSame, same_comes}
 
 -- ---- record by record

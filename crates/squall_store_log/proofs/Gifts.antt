@@ -1,5 +1,5 @@
 -- A partition that gave holds no key that it did not hold.
-use Rattle.std.proofs.Common.{◌≡◌, ℕ, Bool, true, false, List, [], ◌∷◌, Ok, refl, sym, ap, ◌∙◌}
+use Rattle.std.proofs.Common.{◌≡◌, ℕ, Bool, true, false, [], ◌∷◌, Ok, refl, sym, ap, ◌∙◌}
 use Rattle.std.specs.Prelude.{◌&&◌, not}
 use Rattle.squall_span.specs.Spans.{Interval, has}
 use Rattle.squall_span.specs.SpanLaws.{has-minus}

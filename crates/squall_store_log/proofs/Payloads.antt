@@ -1,7 +1,7 @@
 -- Payloads of no record.
 use Rattle.std.specs.Prelude.{◌≢◌}
 use Rattle.std.specs.List.{AllByRecursion}
-use Rattle.std.proofs.Common.{◌≡◌, ℕ, ◌<◌, List, [], ◌∷◌, ◌++◌, length, Result, Ok, Err, refl, sym, ap, subst, ◌∙◌, append_assoc, drop, get_or, ◌+◌}
+use Rattle.std.proofs.Common.{◌≡◌, ℕ, ◌<◌, List, [], ◌∷◌, ◌++◌, length, Err, refl, sym, ap, subst, ◌∙◌, append_assoc, drop, get_or, ◌+◌}
 use Rattle.std.proofs.lemmas.List.{append-nil, drop_more}
 use Rattle.squall_board.specs.Boards.{BoardValue}
 use Rattle.squall_protocol.specs.Chunks.{ChunkValue}
@@ -11,7 +11,7 @@ use Rattle.squall_store.specs.Memory.{Values}
 use Rattle.squall_store_log.specs.declared.fault.ReadFault.{ReadFault}
 use Rattle.squall_store_log.specs.declared.fault.ReadFault.TheVariants.{Strange, NoMemory}
 use Rattle.squall_store_log.specs.declared.record.Record.{Record}
-use Rattle.squall_store_log.specs.declared.record.Record.TheVariants.{Load, Absorb}
+use Rattle.squall_store_log.specs.declared.record.Record.TheVariants.{Load}
 use Rattle.squall_store_log.specs.Records.{spell_chunk, spell_row, spell_rows, spell_record, Fits, FitsChunk, FitsRow, AreWords, IsPushed, ReadsRows}
 use Rattle.squall_store_log.specs.RecordLaws.{of_kind, fields_of, is_load, is_absorb, one_chunk, fits_are_words, no_rows, all-push, spell_rows-push}
 

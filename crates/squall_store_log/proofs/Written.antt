@@ -1,19 +1,14 @@
 -- What a store wrote goes on.
-use Rattle.std.proofs.Common.{◌≡◌, ℕ, Bool, true, false, List, [], ◌∷◌, ◌++◌, Result, Ok, Err, refl, sym, ap, subst, ◌∙◌, append_assoc, inl, inr}
-use Rattle.std.specs.Prelude.{◌&&◌, not, ◌<◌}
-use Rattle.std.specs.List.{AllByRecursion}
+use Rattle.std.proofs.Common.{◌≡◌, ℕ, Bool, true, false, List, [], ◌∷◌, ◌++◌, Ok, refl, sym, ap, subst, ◌∙◌, inl, inr}
+use Rattle.std.specs.Prelude.{◌&&◌, not}
 use Rattle.std.proofs.lemmas.Bool.{cases_Bool}
 use Rattle.std.proofs.lemmas.List.{append-nil}
-use Rattle.squall_key.specs.Keys.{top}
 use Rattle.squall_span.specs.Spans.{has, span_has}
-use Rattle.squall_protocol.specs.Chunks.{ChunkValue}
 use Rattle.squall_log.specs.Entries.{entry}
-use Rattle.squall_course.specs.Change.{Change}
-use Rattle.squall_part.specs.Parts.{PartValue, IsPart, loaded_by}
-use Rattle.squall_part.specs.Loading.{is_new}
+use Rattle.squall_part.specs.Parts.{loaded_by}
 use Rattle.squall_replay.specs.declared.call.Answer.TheVariants.{Absorbed, Gave, Loaded, Again, Finished, Closed}
-use Rattle.squall_store.specs.Memory.{Values, value_at, run_on}
-use Rattle.squall_store.specs.Systems.{StoresValue, StoreCall, restarts, IsStoreIn, with_store}
+use Rattle.squall_store.specs.Memory.{value_at}
+use Rattle.squall_store.specs.Systems.{restarts}
 use Rattle.squall_store_log.specs.declared.record.Record.{Record}
 use Rattle.squall_store_log.specs.declared.record.Record.TheVariants.{Put, Delete, Give, GiveAt, Load, Absorb, Finish, Close}
 use Rattle.squall_store_log.specs.declared.answer.Answer.{Answer}
@@ -21,7 +16,7 @@ use Rattle.squall_store_log.specs.declared.answer.Answer.TheVariants.{Row, Part}
 use Rattle.squall_store_log.specs.Records.{spell_record}
 use Rattle.squall_store_log.specs.RecordLaws.{all-push}
 use Rattle.squall_store_log.specs.Restarts.{Restarts}
-use Rattle.squall_store_log.specs.Steps.{Rows, IsAlike, Loads, Makes, IsRecord, spell_log, Wrote, changes, logged_by}
+use Rattle.squall_store_log.specs.Steps.{Rows, IsAlike, Makes, IsRecord, spell_log, Wrote, changes, logged_by}
 use Rattle.squall_store_log.proofs.Alike.{comes_on, comes_alike}
 use Rattle.squall_store_log.proofs.Cuts.{spell_log-append}
 

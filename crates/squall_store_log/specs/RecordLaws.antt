@@ -1,9 +1,9 @@
 -- Laws of records: each kind of payload is of one kind of record, and each record has one payload (this project's form).
 use Rattle.std.specs.Prelude.{◌≢◌}
-use Rattle.std.proofs.Common.{◌≡◌, ℕ, ◌+◌, ◌^◌, ◌<◌, ◌≤◌, List, [], ◌∷◌, ◌++◌, length, take, drop, Ok, Err, refl, sym, ap, subst, ◌∙◌, append_assoc, arith}
+use Rattle.std.proofs.Common.{◌≡◌, ℕ, ◌^◌, ◌<◌, ◌≤◌, List, [], ◌∷◌, ◌++◌, length, refl, sym, ap, subst, ◌∙◌, append_assoc, arith}
 use Rattle.std.specs.Int.{w32, w64, from_be_bytes}
 use Rattle.std.proofs.lemmas.Nat.{from_be_bytes-to_be_bytes_4, from_be_bytes-to_be_bytes_8}
-use Rattle.squall_key.specs.Keys.{top, part_limit}
+use Rattle.squall_key.specs.Keys.{top}
 use Rattle.squall_log.specs.EntryLaws.{split_same}
 use Rattle.squall_board.specs.Boards.{BoardValue}
 use Rattle.squall_protocol.specs.Chunks.{ChunkValue, chunk_with}

@@ -1,5 +1,5 @@
 -- An opened store, as a restart in a system of stores (this project).
-use Rattle.std.specs.Prelude.{◌≡◌, ℕ, List, [], Option}
+use Rattle.std.specs.Prelude.{ℕ, List, [], Option}
 use Rattle.squall_course.specs.Change.{Change}
 use Rattle.squall_part.specs.Parts.{IsPart}
 use Rattle.squall_store.specs.Memory.{value_at, run_on}

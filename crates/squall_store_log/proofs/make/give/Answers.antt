@@ -1,5 +1,5 @@
-use Rattle.std.proofs.Common.{◌≡◌, sym, subst}
-use Rattle.squall_part.specs.Parts.{PartValue, IsPart}
+use Rattle.std.proofs.Common.{subst}
+use Rattle.squall_part.specs.Parts.{IsPart}
 use Rattle.squall_store_log.proofs.Gifts.{gave}
 use Rattle.squall_store_log.proofs.make.give.Goals as goal
 

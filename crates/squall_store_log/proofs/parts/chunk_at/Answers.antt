@@ -1,5 +1,5 @@
 use Rattle.squall_span.specs.Spans.{interval}
-use Rattle.squall_protocol.specs.Chunks.{ChunkValue, chunk_with}
+use Rattle.squall_protocol.specs.Chunks.{chunk_with}
 use Rattle.squall_store_log.proofs.Payloads.{other_chunk}
 use Rattle.squall_store_log.proofs.parts.chunk_at.Goals as goal
 

@@ -1,4 +1,4 @@
-use Rattle.std.proofs.Common.{◌≡◌, List, ℕ, ◌++◌, append_assoc, ap, refl, ◌∙◌}
+use Rattle.std.proofs.Common.{◌≡◌, List, ℕ, ◌++◌, append_assoc, ap, ◌∙◌}
 use Rattle.squall_protocol.specs.Chunks.{ChunkValue}
 use Rattle.squall_store_log.specs.Records.{word, rank, spell_chunk}
 use Rattle.squall_store_log.proofs.parts.write_chunk.Goals as goal

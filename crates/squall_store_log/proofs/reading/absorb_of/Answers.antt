@@ -1,4 +1,4 @@
-use Rattle.std.proofs.Common.{◌≡◌, ℕ, List, [], ◌++◌, length, Result, Ok, refl, sym, ap, ◌∙◌}
+use Rattle.std.proofs.Common.{◌≡◌, ℕ, [], length, Result, Ok, sym, ap, ◌∙◌}
 use Rattle.squall_wire.specs.declared.fault.WireFault.{WireFault}
 use Rattle.std.proofs.lemmas.List.{append-nil}
 use Rattle.squall_wire.specs.declared.message.Message.{Message}

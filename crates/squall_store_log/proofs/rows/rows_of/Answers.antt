@@ -1,6 +1,5 @@
 use Rattle.std.proofs.Common.{◌≡◌, ap, Err, length, arith}
 use Rattle.std.proofs.lemmas.Bool.Decides.{nat_tests}
-use Rattle.squall_store_log.specs.declared.fault.ReadFault.TheVariants.{Strange}
 use Rattle.squall_store_log.proofs.Payloads.{rows_stop, rows_go_on}
 use Rattle.squall_store_log.proofs.rows.rows_of.Goals as goal
 

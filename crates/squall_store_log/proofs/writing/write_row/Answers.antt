@@ -1,4 +1,4 @@
-use Rattle.std.proofs.Common.{◌≡◌, List, ℕ, ◌++◌, length, append_assoc, ap, ◌∙◌, refl}
+use Rattle.std.proofs.Common.{◌≡◌, List, ℕ, ◌++◌, length, append_assoc, ap, ◌∙◌}
 use Rattle.squall_store_log.specs.Records.{word, rank, spell_row}
 use Rattle.squall_store_log.proofs.writing.write_row.Goals as goal
 
