@@ -1,6 +1,6 @@
 -- What the calls of a store promise, in a system in which it stands.
 use Rattle.std.proofs.Common.{◌≡◌, ◌≢◌, ℕ, ◌<◌, ◌==◌, true, false, [], Result, Ok, Err, Option, Some, OnOk, OnErr, refl, sym, ap, ◌∙◌, subst, if◌then◌else◌, ⊎_elim}
-use Rattle.std.specs.Prelude.{◌⊎◌, IfOk}
+use Rattle.std.specs.Prelude.{IfOk}
 use Rattle.std.specs.List.{slice_get}
 use Rattle.std.proofs.lemmas.Bool.{cond-true, eq-eqb}
 use Rattle.squall_key.specs.Keys.{top}

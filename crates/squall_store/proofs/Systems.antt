@@ -1,6 +1,5 @@
 -- Beside each system of stores there is a run of a world with rows.
 use Rattle.std.proofs.Common.{◌≡◌, ℕ, ◌<◌, ◌==◌, Bool, true, false, List, [], ◌∷◌, ◌++◌, length, Result, Ok, Err, Option, None, Some, refl, sym, ap, ◌∙◌, subst, if◌then◌else◌, ⊎_elim, inl, inr, ap₂, le_refl, arith}
-use Rattle.std.specs.Prelude.{◌⊎◌}
 use Rattle.std.specs.List.{slice_get}
 use Rattle.std.proofs.lemmas.Bool.{cases_Bool, cond-true, cond-false, eq-eqb, eqb-true, ne_eqb, both_ways}
 use Rattle.std.proofs.lemmas.Option.{same_Some, slice_get_within}

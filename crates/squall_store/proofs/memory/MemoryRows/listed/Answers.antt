@@ -1,4 +1,3 @@
-use Rattle.std.proofs.Common.{◌≡◌, List, ℕ, arith, ap, ◌∙◌}
 use Rattle.squall_store.proofs.Listed.{goes_on}
 use Rattle.squall_store.proofs.memory.MemoryRows.listed.Goals as goal
 

@@ -1,4 +1,4 @@
-use Rattle.std.proofs.Common.{◌≤◌, ◌-◌}
+use Rattle.std.proofs.Common.{◌-◌}
 use Rattle.squall_store.proofs.Listed.{IsListedTo}
 use Rattle.squall_store.proofs.memory.MemoryRows.listed.Given as goal
 
