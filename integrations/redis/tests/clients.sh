@@ -196,7 +196,8 @@ read_pages() {
     redis-cli -p "${proxies[left % 2]}" "$verb" "$key" "$cursor" count 100 > "$run/page" || return
     cursor=$(head -n 1 "$run/page")
     [[ $cursor =~ ^[0-9]+$ ]] || { cat "$run/page"; return 1; }
-    tail -n +2 "$run/page" | awk -v step="$step" 'NR % step == 1 || step == 1' >> "$run/members"
+    # A page without members is an empty line of redis-cli.
+    tail -n +2 "$run/page" | awk -v step="$step" 'NF && (NR % step == 1 || step == 1)' >> "$run/members"
     left=$((left - 1))
     [ "$cursor" != 0 ] || left=0
   done
