@@ -6,6 +6,8 @@ mod check;
 #[cfg(test)]
 mod course;
 #[cfg(test)]
+mod edit;
+#[cfg(test)]
 mod plan;
 #[cfg(test)]
 mod report;
