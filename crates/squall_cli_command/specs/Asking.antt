@@ -1,4 +1,4 @@
--- The commands over board files, as `clap` defines simple commands, and what they ask.
+-- The commands over files and words, as `clap` defines simple commands, and what they ask.
 use Rattle.std.specs.Prelude.{Bool, false, List, [], ◌∷◌, Option, Some, None, unwrap_or, codes, if◌then◌else◌}
 use Rattle.std.specs.List.{flat_map}
 use Rattle.std.specs.Option.{option_map_or}
@@ -6,7 +6,7 @@ use Rattle.std.specs.Str.{bytes_eq}
 use Rattle.clap.specs.Words.{App, Shape, Row, Text, new_app, with_rule, first_of, all_of}
 use Rattle.squall_cli_command.specs.declared.inquiry.Inquiry.{Inquiry}
 use Rattle.squall_cli_command.specs.declared.inquiry.StatusAsk.{StatusAsk}
-use Rattle.squall_cli_command.specs.declared.inquiry.Inquiry.TheVariants.{Report, Board, Status, Picture, Routes, Legs, Merge, Beyond, Cover, Digest, Repair}
+use Rattle.squall_cli_command.specs.declared.inquiry.Inquiry.TheVariants.{Report, Board, Status, Picture, Routes, Legs, Merge, Beyond, Cover, Digest, Repair, Plan, Names}
 use Rattle.squall_cli_command.specs.declared.form.Form.{Form}
 use Rattle.squall_cli_command.specs.declared.form.Form.TheVariants.{Lines, Json}
 use Rattle.squall_cli_command.specs.Rules.{file_rule, words_rule, files_rule, option_rule, flag_rule}
@@ -54,6 +54,16 @@ digest_shape = (with_rule (new_app (codes "digest")) (file_rule (codes "A"))).to
 abbrev pub repair_shape : Shape
 repair_shape = (with_rule (with_rule (new_app (codes "repair")) (file_rule (codes "A"))) (file_rule (codes "DIGEST"))).top
 
+-- the command of one plan and a span, without what may follow: `plan OLD FROM TO`
+abbrev pub of_span : App
+of_span = with_rule (with_rule (with_rule (new_app (codes "plan")) (file_rule (codes "OLD"))) (file_rule (codes "FROM"))) (file_rule (codes "TO"))
+
+abbrev pub plan_shape : Shape
+plan_shape = (with_rule of_span (words_rule (codes "PART"))).top
+
+abbrev pub key_shape : Shape
+key_shape = (with_rule (new_app (codes "key")) (words_rule (codes "NAME"))).top
+
 -- ---- what they ask
 
 -- the flag is among the entries
@@ -72,16 +82,20 @@ status_asked form waiting judged = record { form = form; is_waiting = waiting; i
 abbrev pub status_in : List Row → StatusAsk
 status_in rows = status_asked (form_in rows) (is_set (codes "waiting") rows) (is_set (codes "exit-status") rows)
 
--- what a command's name and entries ask of boards as frames: nothing if it is another command
+-- what a command's name asks of a plan, or of names: nothing if it is another command
+abbrev pub other_in : Text → Option Inquiry
+other_in name = if bytes_eq name (codes "plan") then Some Plan else (if bytes_eq name (codes "key") then Some Names else None)
+
+-- what a command's name and entries ask of boards as frames, or of a plan or names: nothing if it is another command
 abbrev pub exchange_in : Text → List Row → Option Inquiry
 exchange_in name rows =
     if bytes_eq name (codes "merge") then Some Merge
     else (if bytes_eq name (codes "beyond") then Some (if is_set (codes "quiet") rows then Cover else Beyond)
     else (if bytes_eq name (codes "digest") then Some Digest
     else (if bytes_eq name (codes "repair") then Some Repair
-    else None)))
+    else other_in name)))
 
--- what they ask of board files: nothing if it is another command
+-- what they ask of files and words: nothing if it is another command
 abbrev pub inquiry_in : Text → List Row → Option Inquiry
 inquiry_in name rows =
     if bytes_eq name (codes "report") then Some Report
@@ -92,7 +106,7 @@ inquiry_in name rows =
     else (if bytes_eq name (codes "legs") then Some (Legs (form_in rows))
     else exchange_in name rows)))))
 
--- the arguments of an inquiry that are no files: the words of a report, keys or bounds
+-- the arguments of an inquiry that are no files: the words of a report, keys, bounds, partitions or names
 abbrev pub word_arguments : Inquiry → List Text
 word_arguments Report = codes "WORD" ∷ []
 word_arguments (Board form) = []
@@ -105,6 +119,8 @@ word_arguments Beyond = []
 word_arguments Cover = []
 word_arguments Digest = []
 word_arguments Repair = []
+word_arguments Plan = codes "FROM" ∷ codes "TO" ∷ codes "PART" ∷ []
+word_arguments Names = codes "NAME" ∷ []
 
 -- its arguments that are files, in the order in which they are read
 abbrev pub file_arguments : Inquiry → List Text
@@ -119,6 +135,8 @@ file_arguments Beyond = codes "A" ∷ codes "B" ∷ []
 file_arguments Cover = codes "A" ∷ codes "B" ∷ []
 file_arguments Digest = codes "A" ∷ []
 file_arguments Repair = codes "A" ∷ codes "DIGEST" ∷ []
+file_arguments Plan = codes "OLD" ∷ []
+file_arguments Names = []
 
 -- the words that stand for an argument
 abbrev pub values_in : Text → List Row → List Text

@@ -3,7 +3,7 @@ use Rattle.std.specs.Prelude.{true, Some}
 use Rattle.clap.specs.Words.{Rule, Text, new_rule}
 use Rattle.clap.specs.declared.builder.ArgAction.TheVariants.{Set, SetTrue, Append}
 
--- a file's name, which has to be there
+-- a word, such as a file's name, that has to be there
 abbrev pub file_rule : Text → Rule
 file_rule id = record (new_rule id) { required = true; action = Some Set }
 

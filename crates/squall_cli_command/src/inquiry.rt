@@ -1,9 +1,9 @@
-//! What is asked of board files, and by which words.
+//! What is asked of files and words, and by which words.
 
 ghost use Rattle.std.specs.Prelude.{◌≡◌, ◌++◌, map, string_bytes, IfOk, OnOk, if◌then◌else◌};
 ghost use Rattle.clap.specs.Words.{found_of, rows_of};
 ghost use Rattle.squall_cli_command.specs.Line.{words_of};
-ghost use Rattle.squall_cli_command.specs.Asking.{is_set, status_in, exchange_in, inquiry_in, word_arguments, file_arguments, values_in, words_in};
+ghost use Rattle.squall_cli_command.specs.Asking.{is_set, status_in, other_in, exchange_in, inquiry_in, word_arguments, file_arguments, values_in, words_in};
 
 use crate::form::{Form, form_of, is_set};
 use clap::ArgMatches;
@@ -20,7 +20,7 @@ pub struct StatusAsk {
     pub is_judged: bool,
 }
 
-/// What is asked of board files.
+/// What is asked of board files, of a plan and of names.
 #[derive(Clone, Copy, Debug, PartialEq, Eq)]
 pub enum Inquiry {
     /// The frame of a report, which the words write. The files of its plans are among them.
@@ -45,6 +45,11 @@ pub enum Inquiry {
     Digest,
     /// What the board file has that the digest of the second file does not show, as frames.
     Repair,
+    /// The plan of the file with keys at other partitions. The words are two bounds and a partition,
+    /// once or more.
+    Plan,
+    /// The keys of rows. The words are the names of these.
+    Names,
 }
 
 /// An inquiry with what it is about. Words and files are those that were given, in their order.
@@ -76,7 +81,20 @@ fn status_of(matches: &ArgMatches) -> StatusAsk
     }
 }
 
-/// What a command asks of boards as frames. None if it is another command.
+/// What a command asks of a plan, or of names. None if it is another command.
+fn other_of(name: &str) -> Option<Inquiry>
+    ensures { result ≡ other_in name.now }
+{
+    if name == "plan" {
+        return Some(Inquiry::Plan);
+    }
+    if name == "key" {
+        return Some(Inquiry::Names);
+    }
+    None
+}
+
+/// What a command asks of boards as frames, or of a plan or names. None if it is another command.
 fn exchange_of(name: &str, matches: &ArgMatches) -> Option<Inquiry>
     ensures { result ≡ exchange_in name.now (rows_of (found_of matches.now)) }
 {
@@ -92,10 +110,10 @@ fn exchange_of(name: &str, matches: &ArgMatches) -> Option<Inquiry>
     if name == "repair" {
         return Some(Inquiry::Repair);
     }
-    None
+    other_of(name)
 }
 
-/// What a command asks of board files. None if it is another command.
+/// What a command asks of files and words. None if it is another command.
 pub(crate) fn inquiry_of(name: &str, matches: &ArgMatches) -> Option<Inquiry>
     ensures { result ≡ inquiry_in name.now (rows_of (found_of matches.now)) }
 {
@@ -128,6 +146,8 @@ fn word_arguments(inquiry: Inquiry) -> &'static [&'static str]
         Inquiry::Report => &["WORD"],
         Inquiry::Routes => &["KEY"],
         Inquiry::Legs(_) => &["BOUND"],
+        Inquiry::Plan => &["FROM", "TO", "PART"],
+        Inquiry::Names => &["NAME"],
         _ => &[],
     }
 }
@@ -137,13 +157,14 @@ fn file_arguments(inquiry: Inquiry) -> &'static [&'static str]
     ensures { words_of result.now ≡ file_arguments inquiry }
 {
     match inquiry {
-        Inquiry::Report => &[],
+        Inquiry::Report | Inquiry::Names => &[],
         Inquiry::Board(_) | Inquiry::Merge => &["FILE"],
         Inquiry::Status(_) | Inquiry::Picture => &["OLD", "NEW", "FILE", "board"],
         Inquiry::Routes | Inquiry::Legs(_) => &["OLD", "NEW", "board"],
         Inquiry::Beyond | Inquiry::Cover => &["A", "B"],
         Inquiry::Digest => &["A"],
         Inquiry::Repair => &["A", "DIGEST"],
+        Inquiry::Plan => &["OLD"],
     }
 }
 

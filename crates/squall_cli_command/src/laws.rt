@@ -2,7 +2,7 @@
 
 ghost use Rattle.std.specs.Prelude.{◌≢◌, ◌⊎◌, ◌∷◌, [], List, true, false, codes};
 ghost use Rattle.clap.specs.Words.{Text};
-ghost use Rattle.squall_cli_command.specs.declared.inquiry.Inquiry.TheVariants.{Report, Board, Status, Routes, Legs, Beyond, Cover};
+ghost use Rattle.squall_cli_command.specs.declared.inquiry.Inquiry.TheVariants.{Report, Board, Status, Routes, Legs, Beyond, Cover, Plan, Names};
 ghost use Rattle.squall_cli_command.specs.declared.stream.Stream.TheVariants.{Keys, Frames};
 ghost use Rattle.squall_cli_command.specs.declared.form.Form.TheVariants.{Lines, Json};
 ghost use Rattle.squall_cli_command.specs.Asking.{status_asked};
@@ -44,6 +44,15 @@ pub fn files_of_routes()
         (ask (Legs Lines) [] (codes "o" ∷ codes "n" ∷ codes "b" ∷ [])) }
     ensures status { (name : Text) → Asks (name ∷ codes "status" ∷ codes "--board" ∷ codes "b" ∷ codes "o" ∷ codes "n" ∷ codes "f" ∷ [])
         (ask (Status (status_asked Lines false false)) [] (codes "o" ∷ codes "n" ∷ codes "f" ∷ codes "b" ∷ [])) }
+{}
+
+/// The words after `plan` and its file are those of the inquiry, and those after `key` names, in their order.
+pub fn words_of_plans()
+    ensures one { (name : Text) → Asks (name ∷ codes "plan" ∷ codes "o" ∷ codes "2:0" ∷ codes "3:0" ∷ codes "7" ∷ [])
+        (ask Plan (codes "2:0" ∷ codes "3:0" ∷ codes "7" ∷ []) (codes "o" ∷ [])) }
+    ensures more { (name : Text) → Asks (name ∷ codes "plan" ∷ codes "o" ∷ codes "2:0" ∷ codes "3:0" ∷ codes "7" ∷ codes "5:0" ∷ codes "end" ∷ codes "8" ∷ [])
+        (ask Plan (codes "2:0" ∷ codes "3:0" ∷ codes "7" ∷ codes "5:0" ∷ codes "end" ∷ codes "8" ∷ []) (codes "o" ∷ [])) }
+    ensures key { (name : Text) → Asks (name ∷ codes "key" ∷ codes "2:7:a" ∷ codes "b" ∷ []) (ask Names (codes "2:7:a" ∷ codes "b" ∷ []) []) }
 {}
 
 /// Without a key, and with `-` as the only one, a route's keys are those of standard input.

@@ -11,6 +11,7 @@ mod form;
 mod inquiry;
 pub mod laws;
 mod line;
+mod other;
 mod parser;
 mod stream;
 mod task;

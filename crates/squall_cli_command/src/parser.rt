@@ -3,7 +3,8 @@
 ghost use Rattle.std.specs.Prelude.{◌≡◌, IfOk, false};
 ghost use Rattle.clap.specs.Words.{app_of, shape_of, rule_of};
 ghost use Rattle.clap.specs.declared.builder.command.Command.TheViews.{out-Command as fields_of};
-ghost use Rattle.squall_cli_command.specs.Line.{squall_app, boards_app, routes_app, watch_app, courses_app, reports_app, runs_app, plans_app, program_app};
+ghost use Rattle.squall_cli_command.specs.Line.{squall_app, digests_app, boards_app, routes_app, watch_app, courses_app};
+ghost use Rattle.squall_cli_command.specs.Line.{reports_app, runs_app, plans_app, program_app};
 ghost use Rattle.squall_cli_command.specs.Line.{check_shape, course_shape, run_shape, race_shape};
 ghost use Rattle.squall_cli_command.specs.Rules.{file_rule};
 ghost use Rattle.squall_cli_command.specs.Commands.{Adds};
@@ -13,6 +14,7 @@ use crate::courses::{
     legs_command, of_plans, picture_command, route_command, status_command, watch_command,
 };
 use crate::exchange::{beyond_command, digest_command, repair_command};
+use crate::other::{key_command, plan_command};
 use clap::{Arg, ArgAction, Command};
 use std::alloc::{AllocError, Global};
 
@@ -22,9 +24,10 @@ const VERSION: &str = "-";
 const ABOUT: &str =
     "Says where each key is while a database moves from one partition plan to another.";
 
-const AFTER_HELP: &str = "Plans:        check, course
+const AFTER_HELP: &str = "Plans:        check, course, plan
 A move:       status, watch, picture, route, legs
 Board files:  report, board, merge, beyond, digest, repair
+Rows:         key
 Trials:       run, race
 
 A board file has frames, which say what was reported: partitions, proxies and squall report write
@@ -93,7 +96,7 @@ const RACE: &str = "Lines of a race, which is run once all of them are read:
   key K       the board at the end shows the route of key K
   # REMARK    is skipped, as is a line without words";
 
-/// A file's name, which has to be there.
+/// A word, such as a file's name, that has to be there.
 pub(crate) fn file<'a>(alloc: Global, name: &'a str, help: &'a str) -> Arg<'a>
     ensures rule { rule_of result ≡ file_rule name.entry.now }
     ensures global { result.global ≡ false }
@@ -251,12 +254,22 @@ fn with_boards<'a>(alloc: Global) -> Result<Command<'a>, AllocError>
     )
 }
 
-/// The program's command line.
-pub(crate) fn parser<'a>(alloc: Global) -> Result<Command<'a>, AllocError>
-    ensures { IfOk result (λ c. app_of c ≡ squall_app) }
+/// And with those of digests.
+fn with_digests<'a>(alloc: Global) -> Result<Command<'a>, AllocError>
+    ensures { IfOk result (λ c. app_of c ≡ digests_app) }
 {
     added(
         added(with_boards(alloc), digest_command(alloc)),
         repair_command(alloc),
+    )
+}
+
+/// The program's command line: also with those of a plan and of names.
+pub(crate) fn parser<'a>(alloc: Global) -> Result<Command<'a>, AllocError>
+    ensures { IfOk result (λ c. app_of c ≡ squall_app) }
+{
+    added(
+        added(with_digests(alloc), plan_command(alloc)),
+        key_command(alloc),
     )
 }

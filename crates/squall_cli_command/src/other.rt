@@ -1,0 +1,67 @@
+//! The commands of a plan and of names, with their help, as `clap` reads them.
+
+ghost use Rattle.std.specs.Prelude.{◌≡◌, IfOk, false};
+ghost use Rattle.clap.specs.Words.{app_of, shape_of};
+ghost use Rattle.clap.specs.declared.builder.command.Command.TheViews.{out-Command as fields_of};
+ghost use Rattle.squall_cli_command.specs.Asking.{of_span, plan_shape, key_shape};
+
+use crate::boards::{described, words};
+use crate::parser::file;
+use clap::Command;
+use std::alloc::{AllocError, Global};
+
+const PLAN: &str =
+    "The keys from FROM to TO, without TO itself, go to the partition PART. A bound is written
+ROOT:SECOND, as 2:0, and the last one end. Of several spans the last one that has a key says where it
+goes. All other keys stay.
+
+Example:
+  squall plan old.json 2:0 3:0 7 >new.json
+  squall plan old.json 2:0 3:0 7 5:0 end 8 >new.json";
+
+const KEY: &str =
+    "The key of a row is written ROOT:SECOND. A name that begins with two numbers, as 2:7:cart, has the
+key 2:7. Any other name has that of a hash: of what is between { and }, or else of all of it.
+
+Example:
+  squall key 2:7:cart user:1 {user:1}:cart";
+
+/// The command of one plan and a span, without what may follow: `plan OLD FROM TO`.
+fn of_span<'a>(alloc: Global) -> Result<Command<'a>, AllocError>
+    ensures app { IfOk result (λ c. app_of c ≡ of_span) }
+    ensures globals { IfOk result (λ c. (fields_of c).has_globals ≡ false) }
+{
+    described(
+        alloc,
+        "plan",
+        "Writes the plan in which some keys are at other partitions",
+        PLAN,
+    )
+    .arg(file(alloc, "OLD", "The file of the plan, or -"))?
+    .arg(file(alloc, "FROM", "The bound from which on keys go"))?
+    .arg(file(alloc, "TO", "The bound below which keys go"))
+}
+
+/// `plan OLD FROM TO PART [FROM TO PART]..`
+pub(crate) fn plan_command<'a>(alloc: Global) -> Result<Command<'a>, AllocError>
+    ensures shape { IfOk result (λ c. shape_of c ≡ plan_shape) }
+    ensures globals { IfOk result (λ c. (fields_of c).has_globals ≡ false) }
+{
+    of_span(alloc)?.arg(words(
+        alloc,
+        "PART",
+        "The partition to which they go, and then any number of FROM TO PART",
+    ))
+}
+
+/// `key NAME..`
+pub(crate) fn key_command<'a>(alloc: Global) -> Result<Command<'a>, AllocError>
+    ensures shape { IfOk result (λ c. shape_of c ≡ key_shape) }
+    ensures globals { IfOk result (λ c. (fields_of c).has_globals ≡ false) }
+{
+    described(alloc, "key", "Shows the keys of rows by their names", KEY).arg(words(
+        alloc,
+        "NAME",
+        "The names of the rows",
+    ))
+}
