@@ -1,4 +1,4 @@
-"""Random files and words of the commands that read files, for tools/model."""
+"""Random files and words of the commands over files and words, for tools/model."""
 import json
 
 from model_draw import Trial
@@ -212,6 +212,26 @@ def repair(draw):
         told = draw.choice([b"", told + told, delta_frame(*board.listed())])
     one = drawn.named("a.bin", drawn.spoil(b"".join(drawn.frames(board))))
     return drawn.trial("repair", [one, drawn.named("b.digest", drawn.spoil(told))])
+
+
+def made(draw):
+    """A plan with the keys of a few spans at other partitions. One in so many words is none, or is left out."""
+    drawn = Drawn(draw)
+    words = [drawn.plans()[0]]
+    for _ in range(draw.randint(1, 4)):
+        lo, hi = sorted(draw.sample(BOUNDS, 2))
+        bounds = draw.choice([[bound(lo), bound(hi)]] * 9 + [[drawn.bound(4), drawn.bound(4)]])
+        words += [*bounds, draw.choice(WORDS if not draw.randrange(9) else ["0", "1", "2", "3", "4", "9999"])]
+    if len(words) > 4 and not draw.randrange(5):
+        del words[-draw.randint(1, 2):]
+    return drawn.trial("plan", words)
+
+
+def key(draw):
+    """The keys of a few names."""
+    parts = ["2", "7", "02", "4294967294", "4294967295", "4294967296", "", "cart", ":", ":", "{", "}", "{17}", " ", "schl\u00fcssel", "x"]
+    names = ["".join(draw.choice(parts) for _ in range(draw.randint(1, 6))) for _ in range(draw.randint(1, 5))]
+    return Drawn(draw).trial("key", names)
 
 
 def pieces(draw):

@@ -1,11 +1,14 @@
-"""The commands over files as docs/SCENARIOS.md says: what they write, and their status."""
-from plain_board import Board, Change, Refused, bound, number_of, plan_of, rank_of, span
+"""The commands over files and words as docs/SCENARIOS.md says: what they write, and their status."""
+import json
+
+from plain_board import HALF, Board, Change, Refused, bound, joined, number_of, plan_of, rank_of, span
 from plain_frames import MOST, TOP, Fault, decoded, digest_frame
 from plain_json import object_of
+from plain_keys import key_of
 
 NO_REPORT = "error: the words are no report: see squall help report"
-# They write frames, so that their refusals go to standard error.
-WRITE_BYTES = ("report", "merge", "beyond", "digest", "repair")
+# They write frames or a plan, so that their refusals go to standard error.
+WRITE_BYTES = ("report", "merge", "beyond", "digest", "repair", "plan")
 INPUT_TAKEN = "error: standard input is read as it comes, so that no file can be -"
 
 
@@ -90,23 +93,30 @@ def routed(words, files, boards):
 def route(words, files, boards):
     change, board = routed(words, files, boards)
     legs_of_all, shown = board.legs(change), []
-    for at, word in enumerate(words[2:], 1):
+    for word in words[2:]:
         rank = rank_of(word)
         if rank in (None, TOP):
-            raise Refused("\n".join([*shown, f"bad line {at}: word"]))
+            raise Refused("\n".join([*shown, f"refused {word} NoKey"]))
         part = next(part for lo, hi, part in legs_of_all if lo <= rank < hi)
         shown.append(f"route {bound(rank)} {part}")
     return shown
 
 
+def span_of(words):
+    """The two bounds that the words write, the first below the second."""
+    if len(words) == 2:
+        bounds = [rank_of(it) for it in words]
+        for word, rank in zip(words, bounds):
+            if rank is None:
+                raise Refused(f"refused {word} NoBound")
+        if bounds[0] < bounds[1]:
+            return bounds
+    raise Refused(f"refused {' '.join(words)} NoSpan")
+
+
 def legs(words, files, boards):
     change, board = routed(words, files, boards)
-    bounds = [rank_of(it) for it in words[2:]] or [0, TOP]
-    if len(bounds) != 2 or None in bounds:
-        raise Refused("bad line 1: word")
-    lo, hi = bounds
-    if lo >= hi:
-        raise Refused("bad line 1: limit")
+    lo, hi = span_of(words[2:]) if words[2:] else (0, TOP)
     cut = [(max(low, lo), min(high, hi), part) for low, high, part in board.legs(change)]
     return [f"leg {span(low, high)} {part}" for low, high, part in cut if low < high]
 
@@ -160,6 +170,41 @@ def repair(words, files):
     return board.repair(files.digest(words[1])).pieces()
 
 
+def given(words):
+    """The spans that the words write, with the partition of each."""
+    spans = []
+    for at in range(0, len(words) - 2, 3):
+        lo, hi = span_of(words[at:at + 2])
+        part = number_of(words[at + 2])
+        if part is None or part > 9999:
+            raise Refused(f"refused {words[at + 2]} NoPart")
+        spans.append((lo, hi, part))
+    left = words[3 * len(spans):]
+    if left:
+        raise Refused(f"refused {' '.join(left)} NoPart")
+    return spans
+
+
+def plan(words, files):
+    """The text of the plan of the first word with the keys of spans at other partitions."""
+    ends = files.plan("old", words[0])
+    spans = given(words[1:])
+    cuts = sorted({0, *(end for end, _ in ends), *(it for lo, hi, _ in spans for it in (lo, hi))})
+    owner = lambda key: next((part for lo, hi, part in reversed(spans) if lo <= key < hi), None)
+    old = lambda key: next(part for end, part in ends if key < end)
+    ranges = joined((lo, hi, old(lo) if owner(lo) is None else owner(lo)) for lo, hi in zip(cuts, cuts[1:]))
+    if len(ranges) > 4096:
+        raise Refused("refused plan Many")
+    pair = lambda rank: list(divmod(rank, HALF))
+    shown = [{"from": pair(lo), "part": part, "to": "end" if hi == TOP else pair(hi)} for lo, hi, part in ranges]
+    return [json.dumps({"plan": shown}, separators=(",", ":"))]
+
+
+def key(words):
+    """The keys of rows by their names."""
+    return [bound(key_of(word.encode())) for word in words]
+
+
 def parsed(words):
     """The words of a command without its options, the files of `--board`, and the other options."""
     plain, boards, flags = [], [], set()
@@ -196,6 +241,8 @@ def found(command, words, files, boards, flags):
         "beyond": lambda: beyond(words, files),
         "digest": lambda: digest(words, files),
         "repair": lambda: repair(words, files),
+        "plan": lambda: plan(words, files),
+        "key": lambda: key(words),
     }[command]()
 
 

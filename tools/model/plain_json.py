@@ -74,8 +74,8 @@ def legs(lines):
 def refusal(command, line):
     """Why a line refuses what was given."""
     words = line.split(" ")
-    if words[0] == "bad":
-        return {"refused": "bounds", "fault": words[-1]}
+    if words[-1] in ("NoBound", "NoSpan"):
+        return {"refused": " ".join(words[1:-1]), "fault": words[-1]}
     if command == "check":
         return {"refused": "plan", "fault": " ".join(words[1:])}
     return {"refused": words[1], "fault": " ".join(words[2:])}
@@ -83,7 +83,7 @@ def refusal(command, line):
 
 def object_of(command, lines):
     """The object for the lines of a command, as it is written, without its LF."""
-    ends = lines[-1].split(" ")[0] in ("refused", "bad")
+    ends = lines[-1].startswith("refused ")
     told = {"status": status, "board": board, "course": course, "check": check, "legs": legs}[command]
     value = refusal(command, lines[-1]) if ends else told(lines)
     return json.dumps(value, sort_keys=True, separators=(",", ":"), ensure_ascii=False)

@@ -1,4 +1,4 @@
--- What is answered to what is asked of board files (this project's command line).
+-- What is answered to what is asked of files and words (this project's command line).
 use Rattle.std.specs.Prelude.{◌≡◌, ◌⊎◌, ℕ, ◌<◌, List, [], Bool, true, false, ◌==◌, ◌&&◌, MatchBool, Contains, map, string_bytes, if◌then◌else◌}
 use Rattle.std.specs.Io.KnownBytes.{Appends, Consumes}
 use Rattle.squall_cli_lines.specs.Script.{IsPrefix}
@@ -28,6 +28,8 @@ can_be inquiry.Beyond words = true
 can_be inquiry.Cover words = true
 can_be inquiry.Digest words = true
 can_be inquiry.Repair words = true
+can_be inquiry.Plan words = true
+can_be inquiry.Names words = true
 
 -- the names of the files that are read for it, in their order: those of a report are among its words
 abbrev pub files_of : Inquiry → List (List ℕ) → List (List ℕ) → List (List ℕ)
@@ -42,6 +44,8 @@ files_of inquiry.Beyond words files = files
 files_of inquiry.Cover words files = files
 files_of inquiry.Digest words files = files
 files_of inquiry.Repair words files = files
+files_of inquiry.Plan words files = files
+files_of inquiry.Names words files = files
 
 -- the same of what was asked for
 abbrev pub words_asked : Ask → List (List ℕ)
@@ -52,7 +56,7 @@ files_asked asked = files_of asked.inquiry (words_asked asked) (map string_bytes
 
 -- ---- what is written
 
--- the command writes frames or a picture, so that its refusals go to standard error, where no reader takes them for these
+-- the command writes frames, a picture or a plan, so that its refusals go to standard error, where no reader takes them for these
 abbrev pub refuses_aside : Inquiry → Bool
 refuses_aside inquiry.Report = true
 refuses_aside (inquiry.Board form) = false
@@ -65,6 +69,8 @@ refuses_aside inquiry.Beyond = true
 refuses_aside inquiry.Cover = true
 refuses_aside inquiry.Digest = true
 refuses_aside inquiry.Repair = true
+refuses_aside inquiry.Plan = true
+refuses_aside inquiry.Names = false
 
 -- the answer is a refusal that goes to standard error
 abbrev pub is_aside : Inquiry → AnswerValue → Bool
@@ -87,6 +93,8 @@ is_judged inquiry.Beyond = false
 is_judged inquiry.Cover = false
 is_judged inquiry.Digest = false
 is_judged inquiry.Repair = false
+is_judged inquiry.Plan = false
+is_judged inquiry.Names = false
 
 -- the status with which an answer comes that is given whole: 1 if it refuses, and 5 if it is to say that a course is not complete
 abbrev pub status_of_answer : Inquiry → AnswerValue → ℕ

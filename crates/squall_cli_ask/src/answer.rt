@@ -14,13 +14,14 @@ use squall_cli_device::{DeviceFault, Sink};
 use squall_cli_lines::{RunFault, send};
 use std::alloc::Global;
 
-/// Whether refusals go to standard error: those of a command that writes frames or a picture.
+/// Whether refusals go to standard error: those of a command that writes frames, a picture or a plan.
 fn refuses_aside(inquiry: Inquiry) -> bool
     ensures { result ≡ refuses_aside inquiry }
 {
     match inquiry {
         Inquiry::Board(_) | Inquiry::Status(_) | Inquiry::Routes | Inquiry::Legs(_) => false,
-        Inquiry::Report | Inquiry::Picture | Inquiry::Merge => true,
+        Inquiry::Names => false,
+        Inquiry::Report | Inquiry::Picture | Inquiry::Merge | Inquiry::Plan => true,
         Inquiry::Beyond | Inquiry::Cover | Inquiry::Digest | Inquiry::Repair => true,
     }
 }
@@ -90,7 +91,7 @@ fn send_answer<O: Sink, E: Sink>(inquiry: Inquiry, answer: &Answer, out: &mut O,
 }
 
 /// Writes the answer to what is asked of the files, and gives the status. A refusal goes to `err`,
-/// after the program's name, if the command writes frames or a picture. All else goes to `out`.
+/// after the program's name, if the command writes frames, a picture or a plan. All else goes to `out`.
 ///
 /// - 0: the answer is written.
 /// - 1: the answer is written, and it refuses what was given.

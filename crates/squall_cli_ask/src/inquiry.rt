@@ -1,4 +1,4 @@
-//! Does what is asked of board files.
+//! Does what is asked of files and words.
 
 ghost use Rattle.std.specs.Prelude.{◌≡◌, ◌≢◌, ◌⊎◌, ◌↔◌, ℕ, List, true, false, map, string_bytes};
 ghost use Rattle.std.specs.List.{list_all, list_any};
@@ -50,13 +50,13 @@ fn files_of(ask: &Ask) -> &[String]
     }
 }
 
-/// Does what is asked of board files: reads the files that are named, in their order, and writes the
+/// Does what is asked of files and words: reads the files that are named, in their order, and writes the
 /// answer. It gives the status with which the program is to end. A file named `-` is what `input`
 /// gives to its end. If it is named again, it is empty.
 ///
 /// - 0: the answer is written.
-/// - 1: the answer refuses what was given. It goes to `err` if the command writes frames or a picture,
-///   and then nothing is written to `out`.
+/// - 1: the answer refuses what was given. It goes to `err` if the command writes frames, a picture or
+///   a plan, and then nothing is written to `out`.
 /// - 2: the words are no report. Nothing is read or written, and `err` says so.
 /// - 3: a file can't be opened, a read failed or found no end, or a write failed or took nothing.
 /// - 4: an allocation failed.

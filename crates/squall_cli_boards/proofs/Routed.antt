@@ -1,10 +1,10 @@
 -- What comes of words, one after the other.
-use Rattle.std.proofs.Common.{◌≡◌, ℕ, suc, ◌+◌, ◌<◌, ◌≤◌, List, [], ◌∷◌, Bool, true, false, None, length, map, drop, refl, sym, ap, subst, ◌∙◌, arith}
+use Rattle.std.proofs.Common.{◌≡◌, ℕ, suc, ◌+◌, ◌<◌, ◌≤◌, List, [], ◌∷◌, Bool, true, false, length, map, drop, refl, sym, ap, subst, ◌∙◌, arith}
 use Rattle.std.proofs.Math.Seq.{drop-cons}
 use Rattle.std.proofs.lemmas.Bool.{false≢true}
 use Rattle.std.specs.Prelude.{slice_index_or, if◌then◌else◌}
 use Rattle.squall_cli_boards.specs.Answers.{AnswerValue, answer_with}
-use Rattle.squall_cli_boards.specs.Routes.{after_text, routes_answer, bounds_asked}
+use Rattle.squall_cli_boards.specs.Routes.{after_text, routes_answer}
 
 -- the words that are left begin with the next one
 pub left_words : {X : Type 0} (f : X → List ℕ) (xs : List X) (n : ℕ) (x : X) (word : List ℕ) → n < length xs → x ≡ slice_index_or xs n x → word ≡ f x
@@ -14,29 +14,17 @@ left_words f xs n x word below is text =
     let cut : drop n xs ≡ x ∷ drop (n + 1) xs = drop-cons xs n x below ∙ ap (λ m. slice_index_or xs n x ∷ drop m xs) next ∙ ap (λ y. y ∷ drop (n + 1) xs) (sym is) in
     ap (map f) cut ∙ ap (λ w. w ∷ map f (drop (n + 1) xs)) (sym text)
 
-module _ (to_part : ℕ → ℕ) (number : ℕ) (before after word : List ℕ) (left rest : List (List ℕ)) (whole : AnswerValue) where
+module _ (to_part : ℕ → ℕ) (before after word : List ℕ) (left rest : List (List ℕ)) (whole : AnswerValue) where
   -- a word is refused, and ends the answer
-  pub word_refused : (refused : Bool) → left ≡ word ∷ rest → after_text before (routes_answer to_part number left) ≡ whole
-      → after_text before (routes_answer to_part number (word ∷ rest)) ≡ (if refused then answer_with after true else after_text after (routes_answer to_part (number + 1) rest))
+  pub word_refused : (refused : Bool) → left ≡ word ∷ rest → after_text before (routes_answer to_part left) ≡ whole
+      → after_text before (routes_answer to_part (word ∷ rest)) ≡ (if refused then answer_with after true else after_text after (routes_answer to_part rest))
       → refused ≡ true → answer_with after true ≡ whole
-  word_refused true is all step e = sym step ∙ subst (λ w. after_text before (routes_answer to_part number w) ≡ whole) is all
+  word_refused true is all step e = sym step ∙ subst (λ w. after_text before (routes_answer to_part w) ≡ whole) is all
   word_refused false is all step e = absurd (false≢true e)
 
   -- a word is answered, and the others follow
-  pub word_answered : (refused : Bool) → left ≡ word ∷ rest → after_text before (routes_answer to_part number left) ≡ whole
-      → after_text before (routes_answer to_part number (word ∷ rest)) ≡ (if refused then answer_with after true else after_text after (routes_answer to_part (number + 1) rest))
-      → refused ≡ false → after_text after (routes_answer to_part (number + 1) rest) ≡ whole
-  word_answered false is all step e = sym step ∙ subst (λ w. after_text before (routes_answer to_part number w) ≡ whole) is all
+  pub word_answered : (refused : Bool) → left ≡ word ∷ rest → after_text before (routes_answer to_part left) ≡ whole
+      → after_text before (routes_answer to_part (word ∷ rest)) ≡ (if refused then answer_with after true else after_text after (routes_answer to_part rest))
+      → refused ≡ false → after_text after (routes_answer to_part rest) ≡ whole
+  word_answered false is all step e = sym step ∙ subst (λ w. after_text before (routes_answer to_part w) ≡ whole) is all
   word_answered true is all step e = absurd (false≢true (sym e))
-
--- one word, and more than two, are no bounds
-pub one_is_none : {X : Type 0} (f : X → List ℕ) (xs : List X) → 1 ≤ length xs → length xs < 2 → None ≡ bounds_asked (map f xs)
-one_is_none f [] some few = absurd (omega (arith, some))
-one_is_none f (x ∷ []) some few = refl
-one_is_none f (x ∷ y ∷ xs) some few = absurd (omega (arith, few))
-
-pub three_are_none : {X : Type 0} (f : X → List ℕ) (xs : List X) → 3 ≤ length xs → None ≡ bounds_asked (map f xs)
-three_are_none f [] some = absurd (omega (arith, some))
-three_are_none f (x ∷ []) some = absurd (omega (arith, some))
-three_are_none f (x ∷ y ∷ []) some = absurd (omega (arith, some))
-three_are_none f (x ∷ y ∷ z ∷ xs) some = refl

@@ -42,7 +42,7 @@ ShowsPicture c b a = (text : List ℕ) × IsPictureOf c (says b) text × (a ≡ 
 
 -- `route`: the partition to ask for each of the keys that the words write
 abbrev pub ShowsRoutes : List (List ℕ) → Change → BoardValue → AnswerValue → Type 0
-ShowsRoutes words c b a = a ≡ routes_answer (route c (says b)) 1 words
+ShowsRoutes words c b a = a ≡ routes_answer (route c (says b)) words
 
 -- `legs`: the legs of the span that the words write, or of all keys
 abbrev pub ShowsLegs : Form → List (List ℕ) → Change → BoardValue → AnswerValue → Type 0

@@ -1,5 +1,5 @@
 -- What is answered to an inquiry about files (this project's command line).
-use Rattle.std.specs.Prelude.{ℕ, List, take, drop}
+use Rattle.std.specs.Prelude.{◌≡◌, ℕ, List, take, drop}
 use Rattle.squall_cli_command.specs.declared.inquiry.Inquiry.{Inquiry}
 use Rattle.squall_cli_command.specs.declared.inquiry.Inquiry.TheVariants as inquiry
 use Rattle.squall_cli_command.specs.declared.form.Form.TheVariants.{Lines}
@@ -7,9 +7,10 @@ use Rattle.squall_cli_boards.specs.Files.{FileValue, board_of_files, files_joine
 use Rattle.squall_cli_boards.specs.Answers.{AnswerValue, AnswersFor, AnswersIn, AnswersBoth, AnswersRepair}
 use Rattle.squall_cli_boards.specs.Answers.{ShowsBoard, ShowsFrames, ShowsDigest, ShowsBeyond, ShowsCover}
 use Rattle.squall_cli_boards.specs.Courses.{shown_as, ShowsStatus, ShowsPicture, ShowsRoutes, ShowsLegs, AnswersNewest}
+use Rattle.squall_cli_boards.specs.Planned.{AnswersPlan, names_answer}
 use Rattle.squall_cli_boards.specs.ReportWords.{report_asked, AnswersReport}
 
--- what is answered to an inquiry with some words about files, in their order: only for a report, routes and legs do the words count
+-- what is answered to an inquiry with some words about files, in their order: only for a report, routes, legs, a plan and keys do the words count
 abbrev pub IsAnswerTo : Inquiry → List (List ℕ) → List FileValue → AnswerValue → Type 0
 IsAnswerTo inquiry.Report words files a = AnswersReport (report_asked words) files a
 IsAnswerTo (inquiry.Board form) words files a = AnswersIn form (ShowsBoard form) (files_joined files) a
@@ -22,3 +23,5 @@ IsAnswerTo inquiry.Beyond words files a = AnswersFor (AnswersBoth ShowsBeyond (d
 IsAnswerTo inquiry.Cover words files a = AnswersFor (AnswersBoth ShowsCover (drop 1 files)) (board_of_files (take 1 files)) a
 IsAnswerTo inquiry.Digest words files a = AnswersFor ShowsDigest (board_of_files files) a
 IsAnswerTo inquiry.Repair words files a = AnswersFor (AnswersRepair (drop 1 files)) (board_of_files (take 1 files)) a
+IsAnswerTo inquiry.Plan words files a = AnswersPlan words files a
+IsAnswerTo inquiry.Names words files a = a ≡ names_answer words

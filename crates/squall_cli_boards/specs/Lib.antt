@@ -6,6 +6,9 @@ pub use Rattle.squall_board.specs.BoardBeyond
 pub use Rattle.squall_board.specs.CourseRoute
 pub use Rattle.squall_plan.specs.Form
 pub use Rattle.squall_plan.specs.Faults
+pub use Rattle.squall_plan.specs.PlanText
+pub use Rattle.squall_plan_edit.specs.Moved
+pub use Rattle.squall_keymap.specs.KeyMap
 pub use Rattle.squall_course.specs.Change
 pub use Rattle.squall_status.specs.Summary
 pub use Rattle.squall_status.specs.Texts
@@ -26,9 +29,11 @@ pub mod Files
 pub mod Answers
 pub mod Known
 pub mod Found
+pub mod BadWords
 pub mod Routes
 pub mod Courses
 pub mod Joined
 pub mod Plans
+pub mod Planned
 pub mod ReportWords
 pub mod Inquiries

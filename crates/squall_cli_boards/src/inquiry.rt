@@ -8,12 +8,13 @@ use crate::boards::{board_answer, digest_answer, merge_answer};
 use crate::courses::{legs_answer, picture_answer, routes_answer, status_answer};
 use crate::exchange::{beyond_answer, cover_answer, repair_answer};
 use crate::file::NamedFile;
+use crate::planned::{names_answer, plan_answer};
 use crate::plans::report_answer;
 use squall_cli_command::Inquiry;
 use std::alloc::{AllocError, Global};
 
-/// The answer to the inquiry about the files, in their order. The words count only for a report, routes
-/// and legs. Words that are no report are refused without a line. It fails only if an allocation fails.
+/// The answer to the inquiry about the files, in their order. The words count only for a report, routes,
+/// legs, a plan and keys. Words that are no report are refused without a line. It fails only if an allocation fails.
 pub fn answer_to(
     alloc: Global,
     inquiry: Inquiry,
@@ -34,5 +35,7 @@ pub fn answer_to(
         Inquiry::Cover => cover_answer(alloc, files),
         Inquiry::Digest => digest_answer(alloc, files),
         Inquiry::Repair => repair_answer(alloc, files),
+        Inquiry::Plan => plan_answer(alloc, words, files),
+        Inquiry::Names => names_answer(alloc, words),
     }
 }

@@ -1,4 +1,5 @@
-//! What the commands over board files answer: the lines of a board, and the frames of what boards tell.
+//! What the commands over files answer: the lines of a board, the frames of what boards tell, routes,
+//! plans and keys.
 //!
 //! A board file is the frames of a board, one after the other. Several files are joined.
 //!
@@ -15,10 +16,12 @@ mod hearing;
 mod inquiry;
 mod joining;
 mod known;
+mod planned;
 mod plans;
 mod refusals;
 mod report_words;
 mod routes;
+mod words;
 
 pub use answer::Answer;
 pub use courses::status_text;

@@ -28,7 +28,7 @@ fn shown_report(alloc: Global, report: &Report) -> Result<Answer, AllocError>
 }
 
 /// The bytes of the file of that place, from 0 on. None if there is no such file.
-fn bytes_at(files: &[NamedFile], at: usize) -> &[u8]
+pub(crate) fn bytes_at(files: &[NamedFile], at: usize) -> &[u8]
     ensures { result.now ≡ bytes_at files.now at }
 {
     match files.get(at) {

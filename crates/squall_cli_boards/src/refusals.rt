@@ -1,15 +1,13 @@
-//! What refuses files and words, as lines and as JSON.
+//! What refuses files, as lines and as JSON.
 
 ghost use Rattle.std.specs.Prelude.{◌≡◌, IfOk, string_bytes};
 ghost use Rattle.squall_cli_json.specs.Values.{json_line, json_of_refusal};
 ghost use Rattle.squall_cli_boards.specs.Files.{refused_file, refusal_with};
 ghost use Rattle.squall_cli_boards.specs.Answers.{refusing, refusing_file, refusing_plan};
-ghost use Rattle.squall_cli_boards.specs.Routes.{refusing_bounds};
 
 use crate::answer::Answer;
 use squall_cli_command::Form;
 use squall_cli_json::refusal_json;
-use squall_cli_words::{Reason, add_bad_line};
 use squall_plan::PlanFault;
 use squall_wire::WireFault;
 use std::alloc::{AllocError, Global};
@@ -69,7 +67,7 @@ impl FileRefusal {
 }
 
 /// The JSON object that refuses something, as an answer.
-fn refusing_json(alloc: Global, what: &str, fault: &str) -> Result<Answer, AllocError>
+pub(crate) fn refusing_json(alloc: Global, what: &str, fault: &str) -> Result<Answer, AllocError>
     ensures { IfOk result (λ a. a ≡ refusing (json_line (json_of_refusal what.now fault.now))) }
 {
     let text = refusal_json(alloc, what, fault)?;
@@ -93,28 +91,6 @@ pub(crate) fn refused_plan(
         Form::Json => {
             let fault = format!(in alloc; "{fault}")?;
             refusing_json(alloc, which, fault.as_str())
-        }
-    }
-}
-
-/// The answer that refuses the words of bounds. As a line it is that by which a scenario refuses its
-/// first line.
-pub(crate) fn refused_bounds(
-    alloc: Global,
-    form: Form,
-    reason: Reason,
-) -> Result<Answer, AllocError>
-    ensures { IfOk result (λ a. a ≡ refusing_bounds form reason) }
-{
-    match form {
-        Form::Lines => {
-            let mut line = String::new(alloc);
-            add_bad_line(1, reason, &mut line)?;
-            Answer::refusing(alloc, line.as_str())
-        }
-        Form::Json => {
-            let fault = format!(in alloc; "{reason}")?;
-            refusing_json(alloc, "bounds", fault.as_str())
         }
     }
 }

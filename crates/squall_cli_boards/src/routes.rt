@@ -1,23 +1,24 @@
 //! Routes and legs of a course, as far as a board tells of it.
 
-ghost use Rattle.std.specs.Prelude.{◌≡◌, ◌∷◌, [], ℕ, List, ◌+◌, true, false, Some, IfOk, map, if◌then◌else◌, string_bytes};
+ghost use Rattle.std.specs.Prelude.{◌≡◌, ◌∷◌, ℕ, List, true, false, Some, IfOk, map, if◌then◌else◌, string_bytes};
 ghost use Rattle.squall_key.specs.Keys.{top};
+ghost use Rattle.squall_span.specs.Spans.{interval};
 ghost use Rattle.squall_board.specs.Boards.{says};
 ghost use Rattle.squall_board.specs.Route.{route};
 ghost use Rattle.squall_table.specs.Tables.{legs_between};
-ghost use Rattle.squall_cli_words.specs.Forms.{two_bounds};
 ghost use Rattle.squall_cli_boards.specs.Answers.{answer_with};
+ghost use Rattle.squall_cli_boards.specs.BadWords.{word_seen};
 ghost use Rattle.squall_cli_boards.specs.Courses.{ShowsRoutes, ShowsLegs};
-ghost use Rattle.squall_cli_boards.specs.Routes.{after_text, routes_answer, legs_in, span_between, bounds_asked};
+ghost use Rattle.squall_cli_boards.specs.Routes.{after_text, routes_answer, legs_in, legs_answer, span_asked};
 
 use crate::answer::Answer;
-use crate::refusals::refused_bounds;
+use crate::words::{BadWord, WordFault, key_in, span_of_words};
 use squall_board::Board;
 use squall_cli_command::Form;
 use squall_cli_json::legs_json;
-use squall_cli_words::{Reason, add_bad_line, add_legs, add_route};
+use squall_cli_words::{add_legs, add_route};
 use squall_course::Course;
-use squall_key::{Bound, Key};
+use squall_key::Bound;
 use squall_span::Span;
 use squall_table::laws::legs_are_key_by_key;
 use squall_table::{Leg, RouteTable};
@@ -25,45 +26,50 @@ use std::alloc::{AllocError, Global};
 
 /// Adds the route of the key that a word writes, or why the word is refused. Whether it is refused.
 fn add_word(
+    alloc: Global,
     word: &str,
-    number: u64,
     course: &Course,
     board: &Board,
     text: &mut String,
 ) -> Result<bool, AllocError>
     ensures { IfOk result (λ refused. (words : List (List ℕ))
-        → after_text (string_bytes text.old) (routes_answer (route course.now (says board.now)) number (word.now ∷ words))
+        → after_text (string_bytes text.old) (routes_answer (route course.now (says board.now)) (word.now ∷ words))
         ≡ (if refused then answer_with (string_bytes text.new) true
-        else after_text (string_bytes text.new) (routes_answer (route course.now (says board.now)) (number + 1) words))) }
+        else after_text (string_bytes text.new) (routes_answer (route course.now (says board.now)) words))) }
 {
-    let Some(key) = Key::read(word) else {
-        add_bad_line(number, Reason::Word, text)?;
-        return Ok(true);
-    };
-    add_route(key, board.route(course, key), text)?;
-    Ok(false)
+    match key_in(word) {
+        Ok(key) => {
+            add_route(key, board.route(course, key), text)?;
+            Ok(false)
+        }
+        Err(bad) => {
+            text.push_str(bad.line(alloc)?.as_str())?;
+            Ok(true)
+        }
+    }
 }
 
 /// Adds the routes of the keys that the words write, up to a word that is refused. Whether one is.
 fn add_words(
+    alloc: Global,
     words: &[String],
     course: &Course,
     board: &Board,
     text: &mut String,
 ) -> Result<bool, AllocError>
     ensures { IfOk result (λ refused. answer_with (string_bytes text.new) refused
-        ≡ after_text (string_bytes text.old) (routes_answer (route course.now (says board.now)) 1 (map string_bytes words.now))) }
+        ≡ after_text (string_bytes text.old) (routes_answer (route course.now (says board.now)) (map string_bytes words.now))) }
 {
-    for (index, word) in words.iter().enumerate() {
-        if add_word(word.as_str(), index as u64 + 1, course, board, text)? {
+    for word in words {
+        if add_word(alloc, word.as_str(), course, board, text)? {
             return Ok(true);
         }
     }
     Ok(false)
 }
 
-/// The partition to ask for each of the keys that the words write. A word that is no key is refused
-/// as a scenario refuses a line, after the routes of those before it.
+/// The partition to ask for each of the keys that the words write. A word that is no key is refused,
+/// after the routes of those before it.
 pub(crate) fn shown_routes(
     alloc: Global,
     words: &[String],
@@ -73,48 +79,25 @@ pub(crate) fn shown_routes(
     ensures { IfOk result (λ a. ShowsRoutes (map string_bytes words.now) course.now board.now a) }
 {
     let mut text = String::new(alloc);
-    let refused = add_words(words, course, board, &mut text)?;
+    let refused = add_words(alloc, words, course, board, &mut text)?;
     Answer::of_text(alloc, text.as_str(), refused)
 }
 
-/// The two bounds that two words write.
-fn both_bounds(lo: &str, hi: &str) -> Option<(Bound, Bound)>
-    ensures { result ≡ two_bounds (lo.now ∷ hi.now ∷ []) }
+/// The span of all keys.
+fn all_keys() -> Option<Span>
+    ensures { result ≡ Some (interval 0 top) }
 {
-    let lo = Bound::read(lo)?;
-    let hi = Bound::read(hi)?;
-    Some((lo, hi))
+    Span::new(Bound::of_rank(0)?, Bound::TOP)
 }
 
-/// The span of two bounds, or why there is none.
-fn span_between(bounds: Option<(Bound, Bound)>) -> Result<Span, Reason>
-    ensures { result ≡ span_between bounds }
-{
-    let Some((lo, hi)) = bounds else {
-        return Err(Reason::Word);
-    };
-    match Span::new(lo, hi) {
-        Some(span) => Ok(span),
-        None => Err(Reason::Limit),
-    }
-}
-
-/// The bounds of all keys.
-fn all_keys() -> Option<(Bound, Bound)>
-    ensures { result ≡ Some (0, top) }
-{
-    Some((Bound::of_rank(0)?, Bound::TOP))
-}
-
-/// The two bounds that the words write, or without words those of all keys.
-fn bounds_asked(words: &[String]) -> Option<(Bound, Bound)>
-    ensures { result ≡ bounds_asked (map string_bytes words.now) }
+/// The span whose bounds the words write, or without words that of all keys; or why words are refused.
+fn span_asked(words: &[String]) -> Result<Span, BadWord<'_>>
+    ensures { word_seen result ≡ span_asked (map string_bytes words.entry.now) }
 {
     match words {
-        [] => all_keys(),
-        [_] => None,
-        [lo, hi] => both_bounds(lo.as_str(), hi.as_str()),
-        _ => None,
+        [] => all_keys().ok_or(BadWord::all(words, WordFault::NoSpan)),
+        [lo, hi] => span_of_words(lo.as_str(), hi.as_str()),
+        _ => Err(BadWord::all(words, WordFault::NoSpan)),
     }
 }
 
@@ -149,7 +132,7 @@ fn legs_text(alloc: Global, form: Form, legs: &[Leg]) -> Result<String, AllocErr
 }
 
 /// The legs of the span, in the form.
-fn shown_span(
+fn span_answer(
     alloc: Global,
     form: Form,
     span: &Span,
@@ -163,8 +146,24 @@ fn shown_span(
     Answer::fine_text(alloc, text.as_str())
 }
 
+/// The legs of the span, in the form, or what refuses the words that ask for it.
+fn shown_span(
+    alloc: Global,
+    form: Form,
+    span: Result<Span, BadWord<'_>>,
+    course: &Course,
+    board: &Board,
+) -> Result<Answer, AllocError>
+    ensures { IfOk result (λ a. a ≡ legs_answer form (route course.now (says board.now)) (word_seen span.entry)) }
+{
+    match span {
+        Ok(span) => span_answer(alloc, form, &span, course, board),
+        Err(bad) => bad.refused(alloc, form),
+    }
+}
+
 /// The legs of the span that the words ask for: that of two bounds, or without words that of all keys.
-/// Words that ask for none are refused as a scenario refuses a line.
+/// Words that ask for none are refused.
 pub(crate) fn shown_legs(
     alloc: Global,
     form: Form,
@@ -174,8 +173,5 @@ pub(crate) fn shown_legs(
 ) -> Result<Answer, AllocError>
     ensures { IfOk result (λ a. ShowsLegs form (map string_bytes words.now) course.now board.now a) }
 {
-    match span_between(bounds_asked(words)) {
-        Ok(span) => shown_span(alloc, form, &span, course, board),
-        Err(reason) => refused_bounds(alloc, form, reason),
-    }
+    shown_span(alloc, form, span_asked(words), course, board)
 }

@@ -100,7 +100,7 @@ job_seen (StreamTask followed) = stream followed.stream (map string_bytes follow
 abbrev pub file_in : Text → List Row → List ℕ
 file_in id rows = unwrap_or (first_of id rows) []
 
--- the job of the name and the entries of a command that asks nothing of board files
+-- the job of the name and the entries of a command that is no inquiry
 abbrev pub file_job_in : Text → List Row → Job
 file_job_in name rows =
     if bytes_eq name (codes "check") then check (form_in rows) (file_in (codes "PLAN") rows)

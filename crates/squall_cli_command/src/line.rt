@@ -27,7 +27,7 @@ fn file(alloc: Global, matches: &ArgMatches, id: &str) -> Result<String, AllocEr
     }
 }
 
-/// The task of a command that asks nothing of board files.
+/// The task of a command that is no inquiry.
 fn file_task_in(alloc: Global, name: &str, matches: &ArgMatches) -> Result<Task, AllocError>
     ensures { IfOk result (λ task. job_seen task ≡ file_job_in name.now (rows_of (found_of matches.now))) }
 {
@@ -103,7 +103,7 @@ fn plain<'a>(alloc: Global, words: &'a [&'a str]) -> Result<Vec<&'a str>, AllocE
 }
 
 /// What the words of a command line ask for, the program's name first: `check PLAN`,
-/// `course OLD NEW`, `run FILE`, `race FILE`, a command over board files, which [`Inquiry`] lists, or
+/// `course OLD NEW`, `run FILE`, `race FILE`, an inquiry about files and words, which [`Inquiry`] lists, or
 /// without a command to run standard input.
 ///
 /// - `Help`: they ask for help, by `-h`, `--help` or `help`, or for the version, by `-V` or

@@ -16,7 +16,7 @@ pub enum Task {
     Run(String),
     /// To run the race of a file.
     Race(String),
-    /// To answer what is asked of board files.
+    /// To answer what is asked of files and words.
     Ask(Ask),
     /// To answer standard input as it comes.
     Stream(Follow),

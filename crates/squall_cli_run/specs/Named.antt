@@ -17,7 +17,7 @@ IsNamed (race file) name = name ≡ file
 IsNamed (ask inquiry words files) name = Contains (files_of inquiry words files) name
 IsNamed (stream kind files) name = Contains files name
 
--- what is told of a task that ended with that status: of board files a refusal, or what goes with the status; of all other tasks the latter
+-- what is told of a task that ended with that status: of files and words a refusal, or what goes with the status; of all other tasks the latter
 abbrev pub IsToldFor : Job → Bytes → Bytes → ℕ → List ℕ → Type 0
 IsToldFor (check form plan) before after status text = IsTold (IsNamed (check form plan)) status text
 IsToldFor (course form old new) before after status text = IsTold (IsNamed (course form old new)) status text

@@ -1,5 +1,5 @@
 //! What the program does: it runs scenarios and races, checks plans, shows courses, and answers what is
-//! asked of board files.
+//! asked of files and words.
 //!
 //! Its tests are the cases of `cases/` and `tools/faults/failing-system`.
 #![tactic(auto)]

@@ -71,15 +71,16 @@ impl Program<'_> {
     /// they come: what one read brings is answered before the next read.
     ///
     /// - 0: the task was done, or `out` has the help or the version that was asked for.
-    /// - 1: the input was refused; `out` says why, or `err` if the command writes frames or a picture.
+    /// - 1: the input was refused; `out` says why, or `err` if the command writes frames, a
+    ///   picture or a plan.
     /// - 2: the words ask for nothing that there is, or for a report that is none; `err` says why.
     /// - 3: a file can't be opened, a read failed or found no end, or a write failed or took nothing;
     ///   `err` says which.
     /// - 4: an allocation failed, as `err` says.
     /// - 5: the course that `out` shows is not complete, and the status was to say so.
     ///
-    /// With status 0 or 5 `err` gets no text, and with status 1 only a refusal of a command that writes frames
-    /// or a picture, which then writes nothing to `out`. If it is a terminal and a course is watched, it
+    /// With status 0 or 5 `err` gets no text, and with status 1 only a refusal of a command that writes frames,
+    /// a picture or a plan, which then writes nothing to `out`. If it is a terminal and a course is watched, it
     /// shows a bar before any text. A write to `err` that fails is the last of the bars or of the text that it is
     /// part of, and the status stays what it is.
     ///

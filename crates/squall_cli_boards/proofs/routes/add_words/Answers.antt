@@ -7,15 +7,15 @@ use Rattle.squall_cli_boards.proofs.routes.add_words.Goals as goal
 pub returns-then-branch : goal.returns-then-branch
 returns-then-branch c =
     let words = c.args.words.now in
-    let n = c.loop-index.index in
-    word_refused (route c.args.course.now (says c.args.board.now)) (n + 1) _ _ c.as_str.result.now (map string_bytes (drop n words)) (map string_bytes (drop (n + 1) words)) _ c.in_ok-add_word.field-0
-    (left_words string_bytes words n c.index-words-index.result c.as_str.result.now c.loop-index-test.true c.index-words-index.is c.as_str.ensures.value)
-    c.loop-index.invariant (c.in_ok-add_word.ensures (map string_bytes (drop (n + 1) words))) c.if-branch.true
+    let n = c.loop-word.word-index in
+    word_refused (route c.args.course.now (says c.args.board.now)) _ _ c.as_str.result.now (map string_bytes (drop n words)) (map string_bytes (drop (n + 1) words)) _ c.in_ok-add_word.field-0
+    (left_words string_bytes words n c.word-item.result c.as_str.result.now c.loop-word-test.true c.word-item.is c.as_str.ensures.value)
+    c.loop-word.invariant (c.in_ok-add_word.ensures (map string_bytes (drop (n + 1) words))) c.if-branch.true
 
-pub loop-index-preserved : goal.loop-index-preserved
-loop-index-preserved c =
+pub loop-word-preserved : goal.loop-word-preserved
+loop-word-preserved c =
     let words = c.args.words.now in
-    let n = c.loop-index.index in
-    word_answered (route c.args.course.now (says c.args.board.now)) (n + 1) _ _ c.as_str.result.now (map string_bytes (drop n words)) (map string_bytes (drop (n + 1) words)) _ c.in_ok-add_word.field-0
-    (left_words string_bytes words n c.index-words-index.result c.as_str.result.now c.loop-index-test.true c.index-words-index.is c.as_str.ensures.value)
-    c.loop-index.invariant (c.in_ok-add_word.ensures (map string_bytes (drop (n + 1) words))) c.if-branch.false
+    let n = c.loop-word.word-index in
+    word_answered (route c.args.course.now (says c.args.board.now)) _ _ c.as_str.result.now (map string_bytes (drop n words)) (map string_bytes (drop (n + 1) words)) _ c.in_ok-add_word.field-0
+    (left_words string_bytes words n c.word-item.result c.as_str.result.now c.loop-word-test.true c.word-item.is c.as_str.ensures.value)
+    c.loop-word.invariant (c.in_ok-add_word.ensures (map string_bytes (drop (n + 1) words))) c.if-branch.false
