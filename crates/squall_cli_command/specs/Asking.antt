@@ -6,7 +6,7 @@ use Rattle.std.specs.Str.{bytes_eq}
 use Rattle.clap.specs.Words.{App, Shape, Row, Text, new_app, with_rule, first_of, all_of}
 use Rattle.squall_cli_command.specs.declared.inquiry.Inquiry.{Inquiry}
 use Rattle.squall_cli_command.specs.declared.inquiry.StatusAsk.{StatusAsk}
-use Rattle.squall_cli_command.specs.declared.inquiry.Inquiry.TheVariants.{Report, Board, Status, Picture, Routes, Legs, Merge, Beyond, Cover, Digest, Repair, Plan, Names}
+use Rattle.squall_cli_command.specs.declared.inquiry.Inquiry.TheVariants.{Report, Board, Status, Picture, Routes, Legs, Merge, Beyond, Cover, Digest, Repair, Plan, Names, Audit}
 use Rattle.squall_cli_command.specs.declared.form.Form.{Form}
 use Rattle.squall_cli_command.specs.declared.form.Form.TheVariants.{Lines, Json}
 use Rattle.squall_cli_command.specs.Rules.{file_rule, words_rule, files_rule, option_rule, flag_rule}
@@ -64,6 +64,9 @@ plan_shape = (with_rule of_span (words_rule (codes "PART"))).top
 abbrev pub key_shape : Shape
 key_shape = (with_rule (new_app (codes "key")) (words_rule (codes "NAME"))).top
 
+abbrev pub audit_shape : Shape
+audit_shape = (with_rule (of_plans (codes "audit")) (words_rule (codes "LOG"))).top
+
 -- ---- what they ask
 
 -- the flag is among the entries
@@ -82,11 +85,15 @@ status_asked form waiting judged = record { form = form; is_waiting = waiting; i
 abbrev pub status_in : List Row → StatusAsk
 status_in rows = status_asked (form_in rows) (is_set (codes "waiting") rows) (is_set (codes "exit-status") rows)
 
--- what a command's name asks of a plan, or of names: nothing if it is another command
+-- what a command's name asks of a plan, of names, or of logs: nothing if it is another command
 abbrev pub other_in : Text → Option Inquiry
-other_in name = if bytes_eq name (codes "plan") then Some Plan else (if bytes_eq name (codes "key") then Some Names else None)
+other_in name =
+    if bytes_eq name (codes "plan") then Some Plan
+    else (if bytes_eq name (codes "key") then Some Names
+    else (if bytes_eq name (codes "audit") then Some Audit
+    else None))
 
--- what a command's name and entries ask of boards as frames, or of a plan or names: nothing if it is another command
+-- what a command's name and entries ask of boards as frames, or of a plan, names or logs: nothing if it is another command
 abbrev pub exchange_in : Text → List Row → Option Inquiry
 exchange_in name rows =
     if bytes_eq name (codes "merge") then Some Merge
@@ -121,6 +128,7 @@ word_arguments Digest = []
 word_arguments Repair = []
 word_arguments Plan = codes "FROM" ∷ codes "TO" ∷ codes "PART" ∷ []
 word_arguments Names = codes "NAME" ∷ []
+word_arguments Audit = []
 
 -- its arguments that are files, in the order in which they are read
 abbrev pub file_arguments : Inquiry → List Text
@@ -137,6 +145,7 @@ file_arguments Digest = codes "A" ∷ []
 file_arguments Repair = codes "A" ∷ codes "DIGEST" ∷ []
 file_arguments Plan = codes "OLD" ∷ []
 file_arguments Names = []
+file_arguments Audit = codes "OLD" ∷ codes "NEW" ∷ codes "LOG" ∷ []
 
 -- the words that stand for an argument
 abbrev pub values_in : Text → List Row → List Text

@@ -15,7 +15,7 @@ use Rattle.squall_cli_command.specs.declared.form.Form.{Form}
 use Rattle.squall_cli_command.specs.declared.inquiry.Inquiry.{Inquiry}
 use Rattle.squall_cli_command.specs.Rules.{file_rule, flag_rule}
 use Rattle.squall_cli_command.specs.Asking.{report_shape, board_shape, status_shape, picture_shape, watch_shape, route_shape, legs_shape, merge_shape, beyond_shape, digest_shape, repair_shape}
-use Rattle.squall_cli_command.specs.Asking.{plan_shape, key_shape}
+use Rattle.squall_cli_command.specs.Asking.{plan_shape, key_shape, audit_shape}
 use Rattle.squall_cli_command.specs.Asking.{form_in, inquiry_in, word_arguments, file_arguments, words_in}
 use Rattle.squall_cli_command.specs.declared.stream.Stream.{Stream}
 use Rattle.squall_cli_command.specs.Streams.{stream_in, stream_files}
@@ -68,9 +68,13 @@ boards_app = with_subcommand (with_subcommand routes_app merge_shape) beyond_sha
 abbrev pub digests_app : App
 digests_app = with_subcommand (with_subcommand boards_app digest_shape) repair_shape
 
--- all commands: also those of a plan, `plan OLD FROM TO PART..`, and of names, `key NAME..`
+-- and those of a plan, `plan OLD FROM TO PART..`, and of names, `key NAME..`
+abbrev pub names_app : App
+names_app = with_subcommand (with_subcommand digests_app plan_shape) key_shape
+
+-- all commands: also that of logs, `audit OLD NEW LOG..`
 abbrev pub squall_app : App
-squall_app = with_subcommand (with_subcommand digests_app plan_shape) key_shape
+squall_app = with_subcommand names_app audit_shape
 
 -- `help` and what follows it are read as what follows it and `--help`: `help run` as `run --help`
 abbrev pub plain_words : List Text → List Text

@@ -20,7 +20,7 @@ pub struct StatusAsk {
     pub is_judged: bool,
 }
 
-/// What is asked of board files, of a plan and of names.
+/// What is asked of board files, of a plan, of names and of logs.
 #[derive(Clone, Copy, Debug, PartialEq, Eq)]
 pub enum Inquiry {
     /// The frame of a report, which the words write. The files of its plans are among them.
@@ -50,6 +50,8 @@ pub enum Inquiry {
     Plan,
     /// The keys of rows. The words are the names of these.
     Names,
+    /// Whether a run of both plans has the logs of nodes.
+    Audit,
 }
 
 /// An inquiry with what it is about. Words and files are those that were given, in their order.
@@ -81,7 +83,7 @@ fn status_of(matches: &ArgMatches) -> StatusAsk
     }
 }
 
-/// What a command asks of a plan, or of names. None if it is another command.
+/// What a command asks of a plan, of names, or of logs. None if it is another command.
 fn other_of(name: &str) -> Option<Inquiry>
     ensures { result ≡ other_in name.now }
 {
@@ -91,10 +93,13 @@ fn other_of(name: &str) -> Option<Inquiry>
     if name == "key" {
         return Some(Inquiry::Names);
     }
+    if name == "audit" {
+        return Some(Inquiry::Audit);
+    }
     None
 }
 
-/// What a command asks of boards as frames, or of a plan or names. None if it is another command.
+/// What a command asks of boards as frames, or of a plan, names or logs. None if it is another command.
 fn exchange_of(name: &str, matches: &ArgMatches) -> Option<Inquiry>
     ensures { result ≡ exchange_in name.now (rows_of (found_of matches.now)) }
 {
@@ -165,6 +170,7 @@ fn file_arguments(inquiry: Inquiry) -> &'static [&'static str]
         Inquiry::Digest => &["A"],
         Inquiry::Repair => &["A", "DIGEST"],
         Inquiry::Plan => &["OLD"],
+        Inquiry::Audit => &["OLD", "NEW", "LOG"],
     }
 }
 

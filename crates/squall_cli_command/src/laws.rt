@@ -2,7 +2,7 @@
 
 ghost use Rattle.std.specs.Prelude.{◌≢◌, ◌⊎◌, ◌∷◌, [], List, true, false, codes};
 ghost use Rattle.clap.specs.Words.{Text};
-ghost use Rattle.squall_cli_command.specs.declared.inquiry.Inquiry.TheVariants.{Report, Board, Status, Routes, Legs, Beyond, Cover, Plan, Names};
+ghost use Rattle.squall_cli_command.specs.declared.inquiry.Inquiry.TheVariants.{Report, Board, Status, Routes, Legs, Beyond, Cover, Plan, Names, Audit};
 ghost use Rattle.squall_cli_command.specs.declared.stream.Stream.TheVariants.{Keys, Frames};
 ghost use Rattle.squall_cli_command.specs.declared.form.Form.TheVariants.{Lines, Json};
 ghost use Rattle.squall_cli_command.specs.Asking.{status_asked};
@@ -53,6 +53,12 @@ pub fn words_of_plans()
     ensures more { (name : Text) → Asks (name ∷ codes "plan" ∷ codes "o" ∷ codes "2:0" ∷ codes "3:0" ∷ codes "7" ∷ codes "5:0" ∷ codes "end" ∷ codes "8" ∷ [])
         (ask Plan (codes "2:0" ∷ codes "3:0" ∷ codes "7" ∷ codes "5:0" ∷ codes "end" ∷ codes "8" ∷ []) (codes "o" ∷ [])) }
     ensures key { (name : Text) → Asks (name ∷ codes "key" ∷ codes "2:7:a" ∷ codes "b" ∷ []) (ask Names (codes "2:7:a" ∷ codes "b" ∷ []) []) }
+{}
+
+/// The words after `audit` are the files of both plans, and then those of logs, in their order.
+pub fn files_of_audits()
+    ensures { (name : Text) → Asks (name ∷ codes "audit" ∷ codes "o" ∷ codes "n" ∷ codes "a" ∷ codes "b" ∷ [])
+        (ask Audit [] (codes "o" ∷ codes "n" ∷ codes "a" ∷ codes "b" ∷ [])) }
 {}
 
 /// Without a key, and with `-` as the only one, a route's keys are those of standard input.

@@ -1,11 +1,12 @@
-//! The commands of a plan and of names, with their help, as `clap` reads them.
+//! The commands of a plan, of names and of logs, with their help, as `clap` reads them.
 
 ghost use Rattle.std.specs.Prelude.{◌≡◌, IfOk, false};
 ghost use Rattle.clap.specs.Words.{app_of, shape_of};
 ghost use Rattle.clap.specs.declared.builder.command.Command.TheViews.{out-Command as fields_of};
-ghost use Rattle.squall_cli_command.specs.Asking.{of_span, plan_shape, key_shape};
+ghost use Rattle.squall_cli_command.specs.Asking.{of_span, plan_shape, key_shape, audit_shape};
 
 use crate::boards::{described, words};
+use crate::courses::of_plans;
 use crate::parser::file;
 use clap::Command;
 use std::alloc::{AllocError, Global};
@@ -25,6 +26,16 @@ key 2:7. Any other name has that of a hash: of what is between { and }, or else 
 
 Example:
   squall key 2:7:cart user:1 {user:1}:cart";
+
+const AUDIT: &str =
+    "OLD and NEW are the plans of the first course. Each LOG is what one node wrote of what it did, with
+its answers, and of the reports that it received: a partition, the leader or a router. The logs are
+accepted exactly if there is a run of all nodes in which each of them did what its log says.
+
+If there is none, the lines that no run has are named, a line for each log that stops.
+
+Example:
+  squall audit old.json new.json leader.log part-1.log part-3.log router-1.log";
 
 /// The command of one plan and a span, without what may follow: `plan OLD FROM TO`.
 fn of_span<'a>(alloc: Global) -> Result<Command<'a>, AllocError>
@@ -63,5 +74,23 @@ pub(crate) fn key_command<'a>(alloc: Global) -> Result<Command<'a>, AllocError>
         alloc,
         "NAME",
         "The names of the rows",
+    ))
+}
+
+/// `audit OLD NEW LOG..`
+pub(crate) fn audit_command<'a>(alloc: Global) -> Result<Command<'a>, AllocError>
+    ensures shape { IfOk result (λ c. shape_of c ≡ audit_shape) }
+    ensures globals { IfOk result (λ c. (fields_of c).has_globals ≡ false) }
+{
+    of_plans(
+        alloc,
+        "audit",
+        "Judges the logs of nodes: whether a run has them",
+        AUDIT,
+    )?
+    .arg(words(
+        alloc,
+        "LOG",
+        "The files of logs, of each node at most one, or -",
     ))
 }
