@@ -35,13 +35,19 @@ def move(lo, hi, source, dest, sub, how=None, loaded=None, *missing):
 
 
 def status(lines):
-    number, moves, subs, last, loaded, keys, share = matches(COURSE, lines)[0]
+    number, moves, subs, last, loaded, keys, thousandths = matches(COURSE, lines)[0]
     opened = -1 if last == "none" else int(last)
     rows = matches(r"sub-plan (\d+) receivers (\d+) of (\d+) done", lines)
+    shown = [move(*it) for it in matches(MOVE, lines)]
+    # A move that is not shown is complete.
+    shares = [1000] * (int(moves) - len(shown)) + [it["loaded"] * 1000 // it["keys"] for it in shown]
     return {
         "course": int(number), "move_count": int(moves), "subplan_count": int(subs),
         "open": None if last == "none" else opened, "loaded": int(loaded), "keys": int(keys),
-        "thousandths": int(share), "moves": [move(*it) for it in matches(MOVE, lines)],
+        "thousandths": int(thousandths), "moves": shown,
+        "complete": min(shares, default=1000) == 1000, "moves_complete": shares.count(1000),
+        "share": sum(shares) // len(shares) if shares else 1000,
+        "subplans_complete": sum(done == due for _, done, due in rows),
         "subplans": [{"sub": int(sub), "opened": int(sub) <= opened, "receivers": int(due), "done": int(done)}
                      for sub, done, due in rows]
     }

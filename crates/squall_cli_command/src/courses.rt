@@ -39,7 +39,7 @@ ends the answers.
 With --json each frame that changes the object of squall status --json is answered with that object,
 on one line.
 
-If standard error is a terminal, a bar there shows how many of the keys are loaded.
+If standard error is a terminal, a bar there shows how many moves and sub-plans are complete.
 
 Example:
   tail -c +1 -f board.bin | squall watch old.json new.json

@@ -14,5 +14,6 @@ pub use Rattle.squall_board.specs.Listed
 pub use Rattle.squall_status.specs.Coming
 pub use Rattle.squall_status.specs.Summary
 pub use Rattle.squall_status.specs.Texts
+pub mod Shares
 pub mod Values
 pub mod Tokens

@@ -1,7 +1,7 @@
 -- What the program answers, as JSON values (this project's command line). The members of an object are in the order of their
 -- names, as `serde_json` writes them.
 use Rattle.std.specs.Prelude.{ℕ, List, [], ◌∷◌, ◌++◌, length, map, Bool, true, false, Option, None, Some, codes, if◌then◌else◌}
-use Rattle.std.specs.List.{flat_map}
+use Rattle.std.specs.List.{flat_map, count_by}
 use Rattle.serde_json.specs.Data.{Data, null, boolean, number, unsigned, string, array, object, member, no_members}
 use Rattle.serde_json.specs.View.{items_of}
 use Rattle.serde_json.specs.Written.{compact_text}
@@ -24,6 +24,7 @@ use Rattle.squall_status.specs.declared.subplan.SubplanStatus.{SubplanStatus}
 use Rattle.squall_status.specs.declared.text.Shown.{Shown}
 use Rattle.squall_status.specs.Texts.{is_shown}
 use Rattle.squall_status.specs.Summary.{StatusValue, move_keys, move_loaded, thousandths}
+use Rattle.squall_cli_json.specs.Shares.{is_over, are_over, is_ended, course_share}
 
 -- ---- values
 
@@ -112,13 +113,16 @@ abbrev pub json_of_open : Option ℕ → Data
 json_of_open None = null
 json_of_open (Some sub) = json_of_count sub
 
--- the course, its sub-plans by rising number, and the moves that are shown, by rising key; the counts are those of all
+-- the course, its sub-plans by rising number, and the moves that are shown, by rising key; the counts and shares are those of all
 abbrev pub json_of_status : Shown → StatusValue → Data
-json_of_status shown s = object (member (codes "course") (json_of_count s.number) (member (codes "keys") (json_of_count s.keys)
-    (member (codes "loaded") (json_of_count s.loaded) (member (codes "move_count") (json_of_count (length s.moves))
-    (member (codes "moves") (json_of_list (flat_map (shown_move shown) s.moves)) (member (codes "open") (json_of_open s.open_sub)
-    (member (codes "subplan_count") (json_of_count (length s.subplans)) (member (codes "subplans") (json_of_list (map json_of_subplan s.subplans))
-    (member (codes "thousandths") (json_of_count (thousandths s.loaded s.keys)) no_members)))))))))
+json_of_status shown s = object (member (codes "complete") (boolean (are_over s.moves)) (member (codes "course") (json_of_count s.number)
+    (member (codes "keys") (json_of_count s.keys) (member (codes "loaded") (json_of_count s.loaded)
+    (member (codes "move_count") (json_of_count (length s.moves)) (member (codes "moves") (json_of_list (flat_map (shown_move shown) s.moves))
+    (member (codes "moves_complete") (json_of_count (count_by is_over s.moves)) (member (codes "open") (json_of_open s.open_sub)
+    (member (codes "share") (json_of_count (course_share s.moves)) (member (codes "subplan_count") (json_of_count (length s.subplans))
+    (member (codes "subplans") (json_of_list (map json_of_subplan s.subplans))
+    (member (codes "subplans_complete") (json_of_count (count_by is_ended s.subplans))
+    (member (codes "thousandths") (json_of_count (thousandths s.loaded s.keys)) no_members)))))))))))))
 
 -- ---- boards
 

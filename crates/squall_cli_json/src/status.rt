@@ -7,6 +7,7 @@ ghost use Rattle.squall_cli_json.specs.Tokens.{tokens_of, tokens_of_each};
 ghost use Rattle.squall_cli_json.specs.Values.{json_line, json_of_list, json_of_state, json_of_missing, json_of_move_status, shown_move};
 ghost use Rattle.squall_cli_json.specs.Values.{json_of_subplan, json_of_open, json_of_status};
 
+use crate::share::{complete_moves, course_share, ended_subplans};
 use crate::write::{
     write_bound_member, write_count_member, write_flag_member, write_number_member,
     write_part_member, write_span, write_text_member, written_line,
@@ -154,18 +155,23 @@ fn write_status(
 {
     let moves = status.moves();
     let subplans = status.subplans();
+    let over = complete_moves(moves);
     writer.begin_object()?;
+    write_flag_member(writer, "complete", over == moves.len())?;
     write_number_member(writer, "course", status.number())?;
     write_count_member(writer, "keys", status.keys())?;
     write_count_member(writer, "loaded", status.loaded())?;
     write_count_member(writer, "move_count", moves.len() as u64)?;
     writer.key("moves")?;
     write_moves(writer, room, shown, moves)?;
+    write_count_member(writer, "moves_complete", over as u64)?;
     writer.key("open")?;
     write_open(writer, status.open_subplan())?;
+    write_number_member(writer, "share", course_share(moves))?;
     write_count_member(writer, "subplan_count", subplans.len() as u64)?;
     writer.key("subplans")?;
     write_subplans(writer, subplans)?;
+    write_count_member(writer, "subplans_complete", ended_subplans(subplans) as u64)?;
     write_number_member(writer, "thousandths", status.thousandths())?;
     writer.end_object()
 }

@@ -1,33 +1,22 @@
 -- The bar that shows how far a course has come (this project's command line).
-use Rattle.std.specs.Prelude.{ℕ, ◌/◌, List, [], ◌∷◌, ◌++◌, take, drop, nat_lt, codes, if◌then◌else◌}
+use Rattle.std.specs.Prelude.{ℕ, ◌/◌, List, ◌++◌, take, drop, codes}
 use Rattle.std.specs.List.{flat_map}
 use Rattle.std.specs.Fmt.{decimal}
 use Rattle.squall_cli_watch.specs.declared.bar.text.Bar.{Bar}
-
--- a count in at most four digits: its whole units, rounded down, and the letter of the unit
-abbrev pub short_text : ℕ → List ℕ
-short_text n =
-    if nat_lt n 10000 then decimal n
-    else if nat_lt n 10000000 then decimal (n / 1000) ++ codes "K"
-    else if nat_lt n 10000000000 then decimal (n / 1000000) ++ codes "M"
-    else if nat_lt n 10000000000000 then decimal (n / 1000000000) ++ codes "G"
-    else if nat_lt n 10000000000000000 then decimal (n / 1000000000000) ++ codes "T"
-    else if nat_lt n 10000000000000000000 then decimal (n / 1000000000000000) ++ codes "P"
-    else decimal (n / 1000000000000000000) ++ codes "E"
 
 -- 20 cells, one full for each 50 thousandths
 abbrev pub cells : ℕ → List ℕ
 cells thousandths = take (thousandths / 50) (codes "####################") ++ drop (thousandths / 50) (codes "....................")
 
--- the counts beside the cells
+-- the share and the counts beside the cells
 abbrev pub counts_text : Bar → List ℕ
 counts_text bar =
-    codes "] " ++ (decimal bar.thousandths ++ (codes "/1000 keys " ++ (short_text bar.loaded ++ (codes " of " ++ (short_text bar.keys
-    ++ (codes ", moves " ++ (decimal bar.complete ++ (codes " of " ++ decimal bar.moves))))))))
+    codes "] " ++ (decimal bar.share ++ (codes "/1000, moves " ++ (decimal bar.complete ++ (codes " of " ++ (decimal bar.moves
+    ++ (codes ", sub-plans " ++ (decimal bar.ended ++ (codes " of " ++ decimal bar.subplans))))))))
 
 -- a bar, from the start of the line on
 abbrev pub bar_text : Bar → List ℕ
-bar_text bar = codes "\r[" ++ (cells bar.thousandths ++ counts_text bar)
+bar_text bar = codes "\r[" ++ (cells bar.share ++ counts_text bar)
 
 -- what erases a bar: 79 blanks from the start of the line on
 abbrev pub erasure : List ℕ

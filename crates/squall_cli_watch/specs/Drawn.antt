@@ -5,9 +5,8 @@ use Rattle.std.specs.Io.KnownBytes.{Consumes}
 use Rattle.squall_course.specs.Change.{Change}
 use Rattle.squall_board.specs.Boards.{BoardValue, board_join, says}
 use Rattle.squall_board.specs.CourseRoute.{course_of_board}
-use Rattle.squall_status.specs.declared.progress.MoveStatus.{MoveStatus}
-use Rattle.squall_status.specs.Coming.{is_complete}
-use Rattle.squall_status.specs.Summary.{StatusValue, IsStatusOf, thousandths}
+use Rattle.squall_status.specs.Summary.{StatusValue, IsStatusOf}
+use Rattle.squall_cli_json.specs.Shares.{is_over, is_ended, course_share}
 use Rattle.squall_wire.specs.Messages.{Body, lists, rows}
 use Rattle.squall_wire.specs.BoardOf.{board_of_lists}
 use Rattle.squall_wire.specs.Heard.{heard_of}
@@ -22,13 +21,15 @@ use Rattle.squall_cli_watch.specs.Bars.{bar_text, all_bars}
 
 -- ---- one bar
 
--- whether each key of the move is loaded
-abbrev pub is_over : MoveStatus → Bool
-is_over s = is_complete s.progress
-
 -- what the bar of a status shows
 abbrev pub bar_of : StatusValue → Bar
-bar_of s = record { thousandths = thousandths s.loaded s.keys; loaded = s.loaded; keys = s.keys; complete = count_by is_over s.moves; moves = length s.moves }
+bar_of s = record {
+  share = course_share s.moves;
+  complete = count_by is_over s.moves;
+  moves = length s.moves;
+  ended = count_by is_ended s.subplans;
+  subplans = length s.subplans;
+}
 
 -- the text is the bar of the newest course of the board after the first
 pub record IsNewestBar (first : Change) (b : BoardValue) (text : List ℕ) : Type 0 where

@@ -1,18 +1,18 @@
 //! The bar of the newest course, and what is written above it.
 
 ghost use Rattle.std.specs.Prelude.{◌≡◌, ◌≤◌, IfOk, OnOk, OnErr, ℕ, take};
-ghost use Rattle.std.specs.List.{count_by};
 ghost use Rattle.std.specs.Option.{option_map};
 ghost use Rattle.squall_cli_device.specs.States.{TookBytes, OutputFails, NoWriteFails};
 ghost use Rattle.squall_cli_watch.specs.Bars.{bar_text};
-ghost use Rattle.squall_cli_watch.specs.Drawn.{is_over, bar_of, IsNewestBar};
+ghost use Rattle.squall_cli_watch.specs.Drawn.{bar_of, IsNewestBar};
 ghost use Rattle.squall_cli_watch.specs.Drawing.{IsToDraw, Replaces, IsStarted};
 
 use crate::status::newest_status;
 use crate::watcher::Watcher;
 use squall_cli_device::{DeviceFault, Sink};
+use squall_cli_json::{complete_moves, course_share, ended_subplans};
 use squall_cli_lines::send;
-use squall_status::{CourseStatus, MoveStatus};
+use squall_status::CourseStatus;
 use std::alloc::{AllocError, Global};
 
 mod line;
@@ -21,31 +21,19 @@ mod text;
 pub(crate) use line::BarLine;
 pub use text::{Bar, bar_text};
 
-/// How many of the moves are complete.
-fn count_over(moves: &[MoveStatus]) -> usize
-    ensures { result ≡ count_by is_over moves.now }
-{
-    let mut over = 0;
-    for status in moves {
-        if status.progress.is_complete() {
-            over += 1;
-        }
-    }
-    over
-}
-
 /// What the bar of a status shows.
 fn bar_of(status: &CourseStatus) -> Bar
     ensures value { result ≡ bar_of status.now }
-    ensures most { result.thousandths ≤ 1000 }
+    ensures most { result.share ≤ 1000 }
 {
     let moves = status.moves();
+    let subplans = status.subplans();
     Bar {
-        thousandths: status.thousandths(),
-        loaded: status.loaded(),
-        keys: status.keys(),
-        complete: count_over(moves),
+        share: course_share(moves),
+        complete: complete_moves(moves),
         moves: moves.len(),
+        ended: ended_subplans(subplans),
+        subplans: subplans.len(),
     }
 }
 

@@ -1,10 +1,9 @@
 //! The text of a bar.
 
-ghost use Rattle.std.specs.Prelude.{◌≡◌, ◌≤◌, IfOk, Some, string_bytes};
-ghost use Rattle.squall_cli_watch.specs.Bars.{short_text, counts_text, bar_text};
+ghost use Rattle.std.specs.Prelude.{◌≡◌, ◌≤◌, IfOk, string_bytes};
+ghost use Rattle.squall_cli_watch.specs.Bars.{counts_text, bar_text};
 
 use std::alloc::{AllocError, Global};
-use std::fmt;
 
 /// The cells of a bar that is full.
 const FULL: &[u8] = b"####################";
@@ -18,77 +17,39 @@ const CELL: u32 = 50;
 /// How far a course has come.
 #[derive(Clone, Copy, Debug, PartialEq, Eq)]
 pub struct Bar {
-    /// The share of the keys that are loaded, in thousandths.
-    pub thousandths: u32,
-    /// How many of the keys that move are loaded.
-    pub loaded: u64,
-    /// How many keys move.
-    pub keys: u64,
+    /// The mean of the shares of the moves that are loaded, in thousandths.
+    pub share: u32,
     /// How many moves are complete.
     pub complete: usize,
     /// How many moves there are.
     pub moves: usize,
+    /// How many sub-plans have ended.
+    pub ended: usize,
+    /// How many sub-plans there are.
+    pub subplans: usize,
 }
 
-/// A count that is shown in at most four digits.
-#[derive(Clone, Copy)]
-struct Short {
-    count: u64,
-}
-
-/// The whole units, rounded down, and the letter of the unit.
-impl fmt::Display for Short {
-    ghost output = { λ s. Some (short_text s.count) };
-
-    fn fmt<W: fmt::Write>(&self, f: &mut fmt::Formatter<W>) -> fmt::Result {
-        let count = self.count;
-        if count < 10_000 {
-            return write!(f, "{count}");
-        }
-        if count < 10_000_000 {
-            let units = count / 1000;
-            return write!(f, "{units}K");
-        }
-        if count < 10_000_000_000 {
-            let units = count / 1_000_000;
-            return write!(f, "{units}M");
-        }
-        if count < 10_000_000_000_000 {
-            let units = count / 1_000_000_000;
-            return write!(f, "{units}G");
-        }
-        if count < 10_000_000_000_000_000 {
-            let units = count / 1_000_000_000_000;
-            return write!(f, "{units}T");
-        }
-        if count < 10_000_000_000_000_000_000 {
-            let units = count / 1_000_000_000_000_000;
-            return write!(f, "{units}P");
-        }
-        let units = count / 1_000_000_000_000_000_000;
-        write!(f, "{units}E")
-    }
-}
-
-/// The counts beside the cells.
+/// The share and the counts beside the cells.
 fn counts_text(alloc: Global, bar: &Bar) -> Result<String, AllocError>
     ensures { IfOk result (λ text. string_bytes text ≡ counts_text bar.now) }
 {
-    let share = bar.thousandths;
-    let loaded = Short { count: bar.loaded };
-    let keys = Short { count: bar.keys };
+    let share = bar.share;
     let complete = bar.complete;
     let moves = bar.moves;
-    format!(in alloc; "] {share}/1000 keys {loaded} of {keys}, moves {complete} of {moves}")
+    let ended = bar.ended;
+    let subplans = bar.subplans;
+    format!(in alloc;
+        "] {share}/1000, moves {complete} of {moves}, sub-plans {ended} of {subplans}"
+    )
 }
 
 /// The text of the bar, which begins with a CR. It has less than 80 columns if there are fewer than
-/// a million moves.
+/// ten thousand moves, as there always are.
 pub fn bar_text(alloc: Global, bar: &Bar) -> Result<Vec<u8>, AllocError>
-    requires { bar.now.thousandths ≤ 1000 }
+    requires { bar.now.share ≤ 1000 }
     ensures { IfOk result (λ text. text.items ≡ bar_text bar.now) }
 {
-    let full = (bar.thousandths / CELL) as usize;
+    let full = (bar.share / CELL) as usize;
     let counts = counts_text(alloc, bar)?;
     let mut text = Vec::from_slice(alloc, b"\r[")?;
     text.extend_from_slice(&FULL[..full])?;

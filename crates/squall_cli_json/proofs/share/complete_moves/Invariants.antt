@@ -1,7 +1,7 @@
 use Rattle.std.proofs.Common.{◌≡◌, ◌≤◌, take}
 use Rattle.std.specs.List.{count_by}
-use Rattle.squall_cli_watch.specs.Drawn.{is_over}
-use Rattle.squall_cli_watch.proofs.bar.count_over.Given as goal
+use Rattle.squall_cli_json.specs.Shares.{is_over}
+use Rattle.squall_cli_json.proofs.share.complete_moves.Given as goal
 
 abbrev pub invariant-loop-status : goal.invariant-loop-status
 invariant-loop-status l = record {
