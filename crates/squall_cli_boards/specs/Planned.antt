@@ -1,6 +1,7 @@
 -- What is answered of a plan with keys at other partitions, and of names of rows (this project's command line).
-use Rattle.std.specs.Prelude.{◌≡◌, ◌⊎◌, ℕ, ◌<◌, List, [], ◌∷◌, ◌++◌, length, map, nat_lt, false, Option, None, Some, Result, Ok, Err, codes, if◌then◌else◌}
+use Rattle.std.specs.Prelude.{◌≡◌, ◌⊎◌, ℕ, ◌<◌, List, [], ◌∷◌, ◌++◌, length, nat_lt, false, Vec, Option, None, Some, Result, Ok, Err, codes, if◌then◌else◌}
 use Rattle.std.specs.List.{flat_map}
+use Rattle.std.specs.Global.{Global}
 use Rattle.std.specs.Option.{option_and_then}
 use Rattle.squall_key.specs.Numbers.{number_of}
 use Rattle.squall_key.specs.Keys.{part_limit, text_of_key}
@@ -58,7 +59,7 @@ parts_of_words (from ∷ to ∷ []) = Err (bad_words (from ∷ to ∷ []) NoPart
 parts_of_words (from ∷ []) = Err (bad_words (from ∷ []) NoPart)
 
 -- ranges, or why words are refused, without where the words lie in memory
-abbrev pub parts_seen : Result (Vec PlanRange) BadWord → Result (List PlanRange) BadValue
+abbrev pub parts_seen : Result (Vec PlanRange Global) BadWord → Result (List PlanRange) BadValue
 parts_seen (Ok parts) = Ok parts.items
 parts_seen (Err b) = Err (bad_seen b)
 
