@@ -30,6 +30,7 @@ can_be inquiry.Digest words = true
 can_be inquiry.Repair words = true
 can_be inquiry.Plan words = true
 can_be inquiry.Names words = true
+can_be inquiry.Audit words = true
 
 -- the names of the files that are read for it, in their order: those of a report are among its words
 abbrev pub files_of : Inquiry → List (List ℕ) → List (List ℕ) → List (List ℕ)
@@ -46,6 +47,7 @@ files_of inquiry.Digest words files = files
 files_of inquiry.Repair words files = files
 files_of inquiry.Plan words files = files
 files_of inquiry.Names words files = files
+files_of inquiry.Audit words files = files
 
 -- the same of what was asked for
 abbrev pub words_asked : Ask → List (List ℕ)
@@ -71,6 +73,7 @@ refuses_aside inquiry.Digest = true
 refuses_aside inquiry.Repair = true
 refuses_aside inquiry.Plan = true
 refuses_aside inquiry.Names = false
+refuses_aside inquiry.Audit = false
 
 -- the answer is a refusal that goes to standard error
 abbrev pub is_aside : Inquiry → AnswerValue → Bool
@@ -95,6 +98,7 @@ is_judged inquiry.Digest = false
 is_judged inquiry.Repair = false
 is_judged inquiry.Plan = false
 is_judged inquiry.Names = false
+is_judged inquiry.Audit = false
 
 -- the status with which an answer comes that is given whole: 1 if it refuses, and 5 if it is to say that a course is not complete
 abbrev pub status_of_answer : Inquiry → AnswerValue → ℕ

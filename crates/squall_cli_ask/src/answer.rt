@@ -20,7 +20,7 @@ fn refuses_aside(inquiry: Inquiry) -> bool
 {
     match inquiry {
         Inquiry::Board(_) | Inquiry::Status(_) | Inquiry::Routes | Inquiry::Legs(_) => false,
-        Inquiry::Names => false,
+        Inquiry::Names | Inquiry::Audit => false,
         Inquiry::Report | Inquiry::Picture | Inquiry::Merge | Inquiry::Plan => true,
         Inquiry::Beyond | Inquiry::Cover | Inquiry::Digest | Inquiry::Repair => true,
     }

@@ -10,7 +10,8 @@ use Rattle.squall_cli_boards.specs.Courses.{shown_as, ShowsStatus, ShowsPicture,
 use Rattle.squall_cli_boards.specs.Planned.{AnswersPlan, names_answer}
 use Rattle.squall_cli_boards.specs.ReportWords.{report_asked, AnswersReport}
 
--- what is answered to an inquiry with some words about files, in their order: only for a report, routes, legs, a plan and keys do the words count
+-- What is answered to an inquiry with some words about files, in their order: only for a report, routes, legs, a plan and keys do the words
+-- count. Logs are not judged here.
 abbrev pub IsAnswerTo : Inquiry → List (List ℕ) → List FileValue → AnswerValue → Type 0
 IsAnswerTo inquiry.Report words files a = AnswersReport (report_asked words) files a
 IsAnswerTo (inquiry.Board form) words files a = AnswersIn form (ShowsBoard form) (files_joined files) a
@@ -25,3 +26,4 @@ IsAnswerTo inquiry.Digest words files a = AnswersFor ShowsDigest (board_of_files
 IsAnswerTo inquiry.Repair words files a = AnswersFor (AnswersRepair (drop 1 files)) (board_of_files (take 1 files)) a
 IsAnswerTo inquiry.Plan words files a = AnswersPlan words files a
 IsAnswerTo inquiry.Names words files a = a ≡ names_answer words
+IsAnswerTo inquiry.Audit words files a = ⊥

@@ -65,7 +65,7 @@ impl Answer {
     }
 
     /// The text as an answer that refuses what was given or not.
-    pub(crate) fn of_text(alloc: Global, text: &str, refused: bool) -> Result<Answer, AllocError>
+    pub fn of_text(alloc: Global, text: &str, refused: bool) -> Result<Answer, AllocError>
         ensures { IfOk result (λ a. a ≡ answer_with text.now refused) }
     {
         let text = Vec::from_slice(alloc, text.as_bytes())?;

@@ -1,6 +1,7 @@
 //! What is answered to an inquiry about files.
 
-ghost use Rattle.std.specs.Prelude.{IfOk, map, string_bytes};
+ghost use Rattle.std.specs.Prelude.{◌≢◌, IfOk, map, string_bytes};
+ghost use Rattle.squall_cli_command.specs.declared.inquiry.Inquiry.TheVariants.{Audit};
 ghost use Rattle.squall_cli_boards.specs.Inquiries.{IsAnswerTo};
 
 use crate::answer::Answer;
@@ -14,13 +15,15 @@ use squall_cli_command::Inquiry;
 use std::alloc::{AllocError, Global};
 
 /// The answer to the inquiry about the files, in their order. The words count only for a report, routes,
-/// legs, a plan and keys. Words that are no report are refused without a line. It fails only if an allocation fails.
+/// legs, a plan and keys. Words that are no report are refused without a line. Logs are not judged here.
+/// It fails only if an allocation fails.
 pub fn answer_to(
     alloc: Global,
     inquiry: Inquiry,
     words: &[String],
     files: &[NamedFile],
 ) -> Result<Answer, AllocError>
+    requires { inquiry ≢ Audit }
     ensures { IfOk result (λ a. IsAnswerTo inquiry (map string_bytes words.now) files.now a) }
 {
     match inquiry {
@@ -37,5 +40,6 @@ pub fn answer_to(
         Inquiry::Repair => repair_answer(alloc, files),
         Inquiry::Plan => plan_answer(alloc, words, files),
         Inquiry::Names => names_answer(alloc, words),
+        Inquiry::Audit => unreachable!(),
     }
 }
