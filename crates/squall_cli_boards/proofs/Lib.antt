@@ -1,4 +1,5 @@
 pub mod Heard
+pub mod Parts
 pub mod PlansRead
 pub mod Refused
 pub mod Routed

@@ -9,7 +9,7 @@ ghost use Rattle.squall_table.specs.Tables.{legs_between};
 ghost use Rattle.squall_cli_boards.specs.Answers.{answer_with};
 ghost use Rattle.squall_cli_boards.specs.BadWords.{word_seen};
 ghost use Rattle.squall_cli_boards.specs.Courses.{ShowsRoutes, ShowsLegs};
-ghost use Rattle.squall_cli_boards.specs.Routes.{after_text, routes_answer, legs_in, legs_answer, span_asked};
+ghost use Rattle.squall_cli_boards.specs.Routes.{after_text, routes_answer, legs_in, span_asked};
 
 use crate::answer::Answer;
 use crate::words::{BadWord, WordFault, key_in, span_of_words};
@@ -96,6 +96,7 @@ fn span_asked(words: &[String]) -> Result<Span, BadWord<'_>>
 {
     match words {
         [] => all_keys().ok_or(BadWord::all(words, WordFault::NoSpan)),
+        [_] => Err(BadWord::all(words, WordFault::NoSpan)),
         [lo, hi] => span_of_words(lo.as_str(), hi.as_str()),
         _ => Err(BadWord::all(words, WordFault::NoSpan)),
     }
@@ -132,7 +133,7 @@ fn legs_text(alloc: Global, form: Form, legs: &[Leg]) -> Result<String, AllocErr
 }
 
 /// The legs of the span, in the form.
-fn span_answer(
+fn shown_span(
     alloc: Global,
     form: Form,
     span: &Span,
@@ -146,22 +147,6 @@ fn span_answer(
     Answer::fine_text(alloc, text.as_str())
 }
 
-/// The legs of the span, in the form, or what refuses the words that ask for it.
-fn shown_span(
-    alloc: Global,
-    form: Form,
-    span: Result<Span, BadWord<'_>>,
-    course: &Course,
-    board: &Board,
-) -> Result<Answer, AllocError>
-    ensures { IfOk result (λ a. a ≡ legs_answer form (route course.now (says board.now)) (word_seen span.entry)) }
-{
-    match span {
-        Ok(span) => span_answer(alloc, form, &span, course, board),
-        Err(bad) => bad.refused(alloc, form),
-    }
-}
-
 /// The legs of the span that the words ask for: that of two bounds, or without words that of all keys.
 /// Words that ask for none are refused.
 pub(crate) fn shown_legs(
@@ -173,5 +158,8 @@ pub(crate) fn shown_legs(
 ) -> Result<Answer, AllocError>
     ensures { IfOk result (λ a. ShowsLegs form (map string_bytes words.now) course.now board.now a) }
 {
-    shown_span(alloc, form, span_asked(words), course, board)
+    match span_asked(words) {
+        Ok(span) => shown_span(alloc, form, &span, course, board),
+        Err(bad) => bad.refused(alloc, form),
+    }
 }

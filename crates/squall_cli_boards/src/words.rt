@@ -77,6 +77,13 @@ fn spaced(alloc: Global, words: &[String]) -> Result<String, AllocError>
     Ok(text)
 }
 
+/// Two words with a blank between them.
+fn paired(alloc: Global, word: &str, other: &str) -> Result<String, AllocError>
+    ensures { IfOk result (λ text. string_bytes text ≡ word.now ++ 32 ∷ other.now) }
+{
+    format!(in alloc; "{word} {other}")
+}
+
 impl<'a> Phrase<'a> {
     /// The words with a blank between them.
     fn text(&self, alloc: Global) -> Result<String, AllocError>
@@ -84,7 +91,7 @@ impl<'a> Phrase<'a> {
     {
         match self {
             Phrase::One(word) => String::from_str(alloc, word),
-            Phrase::Two(word, other) => format!(in alloc; "{word} {other}"),
+            Phrase::Two(word, other) => paired(alloc, word, other),
             Phrase::All(words) => spaced(alloc, words),
         }
     }
