@@ -13,9 +13,9 @@ use Rattle.squall_protocol.specs.WorldLaws.{same_as_itself}
 use Rattle.squall_protocol.specs.Promises.{IsReached}
 use Rattle.squall_protocol.proofs.Start.{kept_always}
 use Rattle.squall_audit.specs.Lines.{Line, Hearing}
-use Rattle.squall_audit.specs.Logs.{log_at, after_heard, IsWritten, ReportsComeAlone}
+use Rattle.squall_audit.specs.Logs.{Rooted, log_at, after_heard, IsWritten, ReportsComeAlone}
 use Rattle.squall_audit.proofs.Walk.{Few, trace_both, reached_by}
-use Rattle.squall_audit.proofs.Origins.{Rooted, origins_always}
+use Rattle.squall_audit.proofs.Origins.{origins_always}
 use Rattle.squall_audit.proofs.Heard.{Adds, rooted_heard, heard_rooted, logs_both, comes, goes_on}
 use Rattle.squall_audit.proofs.Judged.{first_rooted, known, there, T}
 

@@ -26,9 +26,9 @@ use Rattle.squall_protocol.specs.WorldLaws.{same_world, same_as_itself}
 use Rattle.squall_protocol.specs.Promises.{IsReached}
 use Rattle.squall_protocol.proofs.Lists.{at_end}
 use Rattle.squall_audit.specs.Lines.{Line, Own, Gift, Arrival, Saying, Hearing, Trace, lines_at, Happens}
-use Rattle.squall_audit.specs.Logs.{SomeNode, CanBeHeard, is_sent, log_at, after_heard, Comes, IsOfOneReport, with_lines, HasLogs, OneNodeKnows, WhatComesHappens}
+use Rattle.squall_audit.specs.Logs.{SomeNode, CanBeHeard, Rooted, is_sent, log_at, after_heard, Comes, IsOfOneReport, with_lines, HasLogs, OneNodeKnows, OriginsKnow, WhatComesHappens}
 use Rattle.squall_audit.proofs.Walk.{lines_both, trace_both, trace_one, reached_by}
-use Rattle.squall_audit.proofs.Origins.{Rooted, Origins, origins_always}
+use Rattle.squall_audit.proofs.Origins.{Origins, origins_always}
 
 -- ---- known to some node, and known where it comes from
 
@@ -58,7 +58,7 @@ heard_rooted w q r =
 
 -- ---- a report is sent by the node that it comes from
 
-told_alone : (r : ReportKind PlanPair) → queries_of (report_board r) ≡ queries_by_report r
+pub told_alone : (r : ReportKind PlanPair) → queries_of (report_board r) ≡ queries_by_report r
 told_alone r =
     let a = board_told_by_queries (report_board r) in
     let b = report_tells r in
@@ -66,7 +66,7 @@ told_alone r =
     same_queries (queries_of (report_board r)) (queries_by_report r)
     ((told_by_same (queries_of (report_board r)) (queries_by_report r)).1 (record { facts = λ f. sym (a.facts f) ∙ b.facts f ∙ c.facts f; issues = λ n. sym (a.issues n) ∙ b.issues n ∙ c.issues n }))
 
-same_cell_part : (n s p : ℕ) (c : CellPlace) → is_same_cell (place_at n s p) c ≡ true → c.part ≡ p
+pub same_cell_part : (n s p : ℕ) (c : CellPlace) → is_same_cell (place_at n s p) c ≡ true → c.part ≡ p
 same_cell_part n s p c h =
     let x = and_parts (n == c.number) ((s == c.sub) && (p == c.part)) h in
     let y = and_parts (s == c.sub) (p == c.part) x.1 in
@@ -118,6 +118,9 @@ sender w (Loaded number sub part span) rooted =
 sender w (Done number sub part) rooted = sent_by w (queries_by_report (Done number sub part)) part rooted (λ c k h. absurd (true≢false (sym h))) (λ c h. same_cell_part number sub part c h) (λ n. refl) (λ n. refl)
 sender w (Opened number sub) rooted = sent_by_leader w (queries_by_report (Opened number sub)) rooted (λ c k. refl) (λ c. refl)
 sender w (Issued number issue) rooted = sent_by_leader w (queries_by_report (Issued number issue)) rooted (λ c k. refl) (λ c. refl)
+
+pub origins_know : OriginsKnow
+origins_know w message reached can = rooted_heard w message (origins_always w reached) can
 
 pub one_node_knows : OneNodeKnows
 one_node_knows w r reached can = sender w r (rooted_heard w (queries_by_report r) (origins_always w reached) can)

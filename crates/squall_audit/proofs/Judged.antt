@@ -27,17 +27,17 @@ use Rattle.squall_protocol.proofs.Start.{kept_always}
 use Rattle.squall_audit.specs.Apart.{IsAt}
 use Rattle.squall_audit.specs.Lines.{Line, Own, Gift, Arrival, Saying, Hearing, IsLine, IsNotYet, Happens, Trace, lines_at, View, view, tell, after_line, after_lines}
 use Rattle.squall_audit.specs.Merging.{Can}
-use Rattle.squall_audit.specs.Logs.{is_sent, log_at, all_of, IsWritten, AreWritten, after_heard, CanCome, MayHaveLogs, AreFirst, ComesNext, LogsAreJudged, LogsAreWritten}
+use Rattle.squall_audit.specs.Logs.{Rooted, is_sent, log_at, all_of, IsWritten, AreWritten, after_heard, CanCome, MayHaveLogs, AreFirst, ComesNext, LogsAreJudged, LogsAreWritten}
 use Rattle.squall_audit.proofs.Enabled.{IsThere, can_happen}
 use Rattle.squall_audit.proofs.Walk.{Writing, Taken, NextLine, Few, view_more, parts_there, same_routers, sees, walk, reached_by}
 use Rattle.squall_audit.proofs.Filtered.{taken_by}
 use Rattle.squall_audit.proofs.Greedy.{single}
-use Rattle.squall_audit.proofs.Origins.{IsSettled, settled, first_issued, second_issued, joined_first, Rooted, rooted_later, origins_always}
+use Rattle.squall_audit.proofs.Origins.{IsSettled, settled, first_issued, second_issued, joined_first, rooted_later, origins_always}
 use Rattle.squall_audit.proofs.Heard.{heard_rooted}
 
 -- ---- what is written makes of its node what the line makes
 
-sent_stays : (l : Line) (V : View) → is_sent l ≡ true → after_line l V ≡ V
+pub sent_stays : (l : Line) (V : View) → is_sent l ≡ true → after_line l V ≡ V
 sent_stays (Saying q) V h = refl
 sent_stays (Own (SendPart node said) a) V h = refl
 sent_stays (Own OpenNext a) V h = absurd (cc)

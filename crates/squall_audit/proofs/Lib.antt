@@ -10,3 +10,4 @@ pub mod Origins
 pub mod Heard
 pub mod Judged
 pub mod Alone
+pub mod OneLine

@@ -32,6 +32,7 @@ use Rattle.squall_protocol.proofs.Start.{kept_start}
 use Rattle.squall_protocol.proofs.Runs.{keeps_step}
 use Rattle.squall_protocol.proofs.Lists.{at_either}
 use Rattle.squall_protocol.proofs.Parts.{part_stays}
+use Rattle.squall_audit.specs.Logs.{Rooted}
 use Rattle.squall_audit.proofs.Views.{same_self}
 
 -- ---- parts of what is told
@@ -84,13 +85,6 @@ part_of_itself : (f : Queries) → IsPartOf f f
 part_of_itself f = record { loaded = λ c k h. h; done = λ c h. h; opened = λ n. le_refl (f.opened n); issued = λ n. inr refl }
 
 -- ---- where it comes from
-
--- each load and completion is known to its partition, which is there, and each opening and issue to the leader
-pub record Rooted (w : WorldValue) (q : Queries) : Type 0 where
-  pub loaded : (c : CellPlace) (k : ℕ) → q.loaded c k ≡ true → (is_part w c.part ≡ true) × ((w.facts (Part c.part)).loaded c k ≡ true)
-  pub done : (c : CellPlace) → q.done c ≡ true → (is_part w c.part ≡ true) × ((w.facts (Part c.part)).done c ≡ true)
-  pub opened : (n : ℕ) → q.opened n ≤ (w.facts Leader).opened n
-  pub issued : (n : ℕ) → (q.issued n ≡ Unknown) ⊎ (q.issued n ≡ (w.facts Leader).issued n)
 
 -- so it is of all that nodes know, and that messages tell
 pub record Origins (w : WorldValue) : Type 0 where

@@ -52,9 +52,9 @@ away w (Deliver i (Router r)) = (Leader, λ h. cc)
 away w (Route r k) = (Leader, λ h. cc)
 away w (Serve p k after) = (Leader, λ h. cc)
 
-record Fixed (w u : WorldValue) : Type 0 where
-  first : first_course u ≡ first_course w
-  routers : u.routers ≡ w.routers
+pub record Fixed (w u : WorldValue) : Type 0 where
+  pub first : first_course u ≡ first_course w
+  pub routers : u.routers ≡ w.routers
 
 fixed_step : (w v : WorldValue) (m : Node) (l : Line) → IsReached w → Happens w m l v → Fixed w v
 fixed_step w v m l reached h =
@@ -69,7 +69,7 @@ pub reached_by : (s u : WorldValue) (ts : List (Node × Line)) → IsReached s �
 reached_by s u [] reached trace = subst IsReached (sym trace) reached
 reached_by s u ((n, l) ∷ ts) reached trace = reached_by trace.0 u ts (next s trace.0 n l reached trace.1) trace.2
 
-fixed : (s u : WorldValue) (ts : List (Node × Line)) → IsReached s → Trace s ts u → Fixed s u
+pub fixed : (s u : WorldValue) (ts : List (Node × Line)) → IsReached s → Trace s ts u → Fixed s u
 fixed s u [] reached trace = record { first = ap (λ w. first_course w) trace; routers = ap (λ (w : WorldValue). w.routers) trace }
 fixed s u ((n, l) ∷ ts) reached trace =
     let one : Fixed s trace.0 = fixed_step s trace.0 n l reached trace.1 in

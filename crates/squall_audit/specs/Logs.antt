@@ -7,12 +7,13 @@ use Rattle.squall_report.specs.Issues.{PlanPair}
 use Rattle.squall_report.specs.Cells.{CellPlace}
 use Rattle.squall_report.specs.Queries.{Queries, no_queries, joined_queries, queries_by, queries_by_report}
 use Rattle.squall_protocol.specs.declared.event.Node.{Node}
+use Rattle.squall_protocol.specs.declared.event.Node.TheVariants.{Leader, Part}
 use Rattle.squall_protocol.specs.declared.event.Event.TheVariants.{SendPart}
-use Rattle.squall_protocol.specs.Worlds.{WorldValue, SameWorld, same_node, is_node}
+use Rattle.squall_protocol.specs.Worlds.{WorldValue, SameWorld, same_node, is_node, is_part}
 use Rattle.squall_protocol.specs.Steps.{after_told, IsPartOf}
 use Rattle.squall_protocol.specs.Promises.{IsReached}
 use Rattle.squall_audit.specs.Apart.{Grows}
-use Rattle.squall_audit.specs.Lines.{Line, Own, Saying, Hearing, Happens, Trace, lines_at}
+use Rattle.squall_audit.specs.Lines.{Line, Own, Gift, Arrival, Saying, Hearing, Happens, Trace, lines_at}
 
 -- ---- what can be heard
 
@@ -27,6 +28,13 @@ pub record CanBeHeard (w : WorldValue) (message : Queries) : Type 0 where
   pub done : (c : CellPlace) → message.done c ≡ true → SomeNode w (λ f. f.done c ≡ true)
   pub opened : (n : ℕ) → 1 ≤ message.opened n → SomeNode w (λ f. message.opened n ≤ f.opened n)
   pub issued : (n : ℕ) → (message.issued n ≡ Unknown) ⊎ SomeNode w (λ f. message.issued n ≡ f.issued n)
+
+-- Each load and completion that the message tells is known to its partition, which is there, and each opening and issue to the leader.
+pub record Rooted (w : WorldValue) (message : Queries) : Type 0 where
+  pub loaded : (c : CellPlace) (k : ℕ) → message.loaded c k ≡ true → (is_part w c.part ≡ true) × ((w.facts (Part c.part)).loaded c k ≡ true)
+  pub done : (c : CellPlace) → message.done c ≡ true → (is_part w c.part ≡ true) × ((w.facts (Part c.part)).done c ≡ true)
+  pub opened : (n : ℕ) → message.opened n ≤ (w.facts Leader).opened n
+  pub issued : (n : ℕ) → (message.issued n ≡ Unknown) ⊎ (message.issued n ≡ (w.facts Leader).issued n)
 
 -- ---- what is written down
 
@@ -105,6 +113,10 @@ pub record ComesNext (u : WorldValue) (logs taken : Node → List Line) : Type 0
   pub next_line : Grows (taken node ++ line ∷ []) (logs node)
   pub comes : CanCome u node line
 
+-- what can be heard is known where it comes from
+abbrev pub OriginsKnow : Type 0
+OriginsKnow = (w : WorldValue) (message : Queries) → IsReached w → CanBeHeard w message → Rooted w message
+
 -- what is known of one report is known to one node, which can send it
 abbrev pub OneNodeKnows : Type 0
 OneNodeKnows = (w : WorldValue) (r : ReportKind PlanPair) → IsReached w → CanBeHeard w (queries_by_report r) → SomeNode w (IsPartOf (queries_by_report r))
@@ -132,6 +144,28 @@ LogsAreJudged =
 abbrev pub NoRunHasMore : WorldValue → (Node → List Line) → (Node → List Line) → Type 0
 NoRunHasMore s logs taken = (other : Node → List Line) (v : WorldValue) → MayHaveLogs s other v → AreFirst other logs → AreFirst other taken
 
+-- a run from a reached world leads to a reached world, of which all promises hold
+abbrev pub RunsReach : Type 0
+RunsReach = (s u : WorldValue) (logs : Node → List Line) → IsReached s → HasLogs s logs u → IsReached u
+
 -- a run that has the logs may be written as these logs
 abbrev pub LogsAreWritten : Type 0
 LogsAreWritten = (s u : WorldValue) (logs : Node → List Line) → HasLogs s logs u → MayHaveLogs s logs u
+
+-- ---- what a node answers
+
+-- both lines are of one event, though perhaps not of one answer
+abbrev pub AreOfOneEvent : Line → Line → Type 0
+AreOfOneEvent (Own e a) (Own f b) = e ≡ f
+AreOfOneEvent (Own e a) (Gift f y) = e ≡ f
+AreOfOneEvent (Gift e x) (Own f b) = e ≡ f
+AreOfOneEvent (Gift e x) (Gift f y) = e ≡ f
+AreOfOneEvent (Arrival x a) (Arrival y b) = x ≡ y
+AreOfOneEvent l k = ⊥
+
+-- A node's own log decides what it answers. If its log is the same after two runs, then an event of it has the same line next in both: so
+-- a line with another answer comes next in neither.
+abbrev pub LogsAnswer : Type 0
+LogsAnswer =
+    (s u v : WorldValue) (logs others : Node → List Line) (m : Node) (l k : Line) → IsReached s → HasLogs s logs u → HasLogs s others v → logs m ≡ others m → AreOfOneEvent l k → CanCome u m l → CanCome v m k
+    → l ≡ k

@@ -1,4 +1,4 @@
-use Rattle.squall_audit.proofs.Heard.{one_node_knows, what_comes_happens}
+use Rattle.squall_audit.proofs.Heard.{one_node_knows, origins_know, what_comes_happens}
 use Rattle.squall_audit.proofs.Alone.{reports_come_alone}
 use Rattle.squall_audit.proofs.laws.what_comes_happens.Goals as goal
 
@@ -10,3 +10,6 @@ returns-clause-reports c = reports_come_alone
 
 pub returns-clause-sender : goal.returns-clause-sender
 returns-clause-sender c = one_node_knows
+
+pub returns-clause-origin : goal.returns-clause-origin
+returns-clause-origin c = origins_know
