@@ -1,0 +1,32 @@
+-- What a judge says once all is taken that any run has.
+use Rattle.std.proofs.Common.{◌≡◌, ℕ, ◌<◌, ◌≤◌, List, length, Some, sym, subst, ◌∙◌}
+use Rattle.std.specs.List.{slice_get}
+use Rattle.squall_protocol.specs.Worlds.{WorldValue}
+use Rattle.squall_judge.specs.declared.log.Log.{Log}
+use Rattle.squall_judge.specs.Merges.{IsEnd}
+use Rattle.squall_judge.specs.Judging.{IsAccepted, IsRefused}
+use Rattle.squall_judge.proofs.Logs.{are_first, all_taken}
+
+pub accepted : (s : WorldValue) (logs : List Log) (ns ms : List ℕ) → ms ≡ ns → IsEnd s logs ns → ((i n : ℕ) (log : Log) → slice_get logs i ≡ Some log → slice_get ms i ≡ Some n → length log.entries.items ≤ n) → IsAccepted s logs
+accepted s logs ns ms same end most =
+    record {
+      world = end.world;
+      has = record {
+        run = end.has.run;
+        trace = end.has.trace;
+        written = λ m. end.has.written m ∙ all_taken logs ns end.each (λ i n log here there. most i n log here (subst (λ ks. slice_get ks i ≡ Some n) (sym same) there)) m;
+      };
+      reached = end.reached;
+    }
+
+pub refused : (s : WorldValue) (logs : List Log) (ns ms : List ℕ) → ms ≡ ns → IsEnd s logs ns → (i : ℕ) × (n : ℕ) × (log : Log) × (slice_get logs i ≡ Some log) × (slice_get ms i ≡ Some n) × (n < length log.entries.items) → IsRefused s logs ns
+refused s logs ns ms same end left =
+    record {
+      world = end.world;
+      has = end.has;
+      first = are_first logs ns end.each;
+      each = end.each;
+      within = end.within;
+      left = (left.0, left.1, left.2, left.3, subst (λ ks. slice_get ks left.0 ≡ Some left.1) same left.4, left.5);
+      none = end.none;
+    }
