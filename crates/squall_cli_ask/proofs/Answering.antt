@@ -11,7 +11,7 @@ use Rattle.squall_cli_lines.specs.Heeding.{Says}
 use Rattle.squall_cli_command.specs.declared.inquiry.Inquiry.{Inquiry}
 use Rattle.squall_cli_boards.specs.Files.{FileValue}
 use Rattle.squall_cli_boards.specs.Answers.{AnswerValue}
-use Rattle.squall_cli_boards.specs.Inquiries.{IsAnswerTo}
+use Rattle.squall_cli_ask.specs.Audited.{IsAnswerFor}
 use Rattle.squall_cli_ask.specs.Reads.{Bytes}
 use Rattle.squall_cli_ask.specs.Told.{fault_told, refusal_told, IsUnread, IsNoName, IsTold}
 use Rattle.squall_cli_ask.specs.Gathered.{AreRead}
@@ -50,7 +50,7 @@ mapped false P Q P' Q' f g h = g h
 
 -- ---- an answer
 
-module _ (asked : Inquiry) (words : List (List ℕ)) (files : List FileValue) (a : AnswerValue) (is : IsAnswerTo asked words files a) where
+module _ (asked : Inquiry) (words : List (List ℕ)) (files : List FileValue) (a : AnswerValue) (is : IsAnswerFor asked words files a) where
   -- it is a refusal that goes to standard error
   pub aside_written : (status : ℕ) → status ≡ 1 → is_aside asked a ≡ true → IsAnswered status asked words files []
   aside_written status s e =

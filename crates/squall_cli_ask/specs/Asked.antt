@@ -7,7 +7,7 @@ use Rattle.squall_cli_command.specs.declared.inquiry.Inquiry.{Inquiry}
 use Rattle.squall_cli_command.specs.declared.inquiry.Inquiry.TheVariants as inquiry
 use Rattle.squall_cli_boards.specs.Files.{FileValue}
 use Rattle.squall_cli_boards.specs.Answers.{AnswerValue}
-use Rattle.squall_cli_boards.specs.Inquiries.{IsAnswerTo}
+use Rattle.squall_cli_ask.specs.Audited.{IsAnswerFor}
 use Rattle.squall_cli_boards.specs.ReportWords.{is_report, files_of_report}
 use Rattle.squall_cli_ask.specs.Reads.{Bytes}
 use Rattle.squall_cli_ask.specs.Told.{IsUnread, refusal_told, IsNoName, IsTold}
@@ -112,14 +112,14 @@ GivesAnswer status = (status < 2) ⊎ (status ≡ 5)
 -- and after a failed allocation, which comes before the answer is ready, nothing.
 abbrev pub IsAnswered : ℕ → Inquiry → List (List ℕ) → List FileValue → List ℕ → Type 0
 IsAnswered status asked words files written =
-    ((a : AnswerValue) × IsAnswerTo asked words files a × (status ≡ status_of_answer asked a) × (written ≡ output_of asked a))
-    ⊎ (((a : AnswerValue) × IsAnswerTo asked words files a × (status ≡ 3) × IsPrefix written (output_of asked a)) ⊎ ((status ≡ 4) × (written ≡ [])))
+    ((a : AnswerValue) × IsAnswerFor asked words files a × (status ≡ status_of_answer asked a) × (written ≡ output_of asked a))
+    ⊎ (((a : AnswerValue) × IsAnswerFor asked words files a × (status ≡ 3) × IsPrefix written (output_of asked a)) ⊎ ((status ≡ 4) × (written ≡ [])))
 
 -- ---- what is told
 
 -- the answer about these files is a refusal, and its text is told
 abbrev pub TellsRefusal : Inquiry → List (List ℕ) → List FileValue → List ℕ → Type 0
-TellsRefusal asked words files text = (a : AnswerValue) × IsAnswerTo asked words files a × (a.refused ≡ true) × (text ≡ refusal_told a.text)
+TellsRefusal asked words files text = (a : AnswerValue) × IsAnswerFor asked words files a × (a.refused ≡ true) × (text ≡ refusal_told a.text)
 
 -- a refusal that goes to standard error comes with this status
 abbrev pub comes_aside : Inquiry → ℕ → Bool

@@ -16,12 +16,14 @@ pub use Rattle.squall_cli_boards.specs.Courses
 pub use Rattle.squall_cli_boards.specs.Inquiries
 pub use Rattle.squall_cli_boards.specs.Known
 pub use Rattle.squall_cli_boards.specs.ReportWords
+pub use Rattle.squall_cli_audit.specs.Audits
 pub use Rattle.squall_cli_watch.specs.Watched
 pub use Rattle.squall_cli_watch.specs.Drawn
 pub mod Files
 pub mod Reads
 pub mod Told
 pub mod Gathered
+pub mod Audited
 pub mod Asked
 pub mod Keys
 pub mod Answered

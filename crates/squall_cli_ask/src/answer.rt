@@ -7,8 +7,9 @@ ghost use Rattle.squall_cli_ask.specs.Told.{refusal_told, IsNoName, IsTold};
 ghost use Rattle.squall_cli_ask.specs.Asked.{words_asked, refuses_aside, is_aside, is_judged, status_of_answer, IsAnswered, IsAnswerTold};
 ghost use Rattle.squall_cli_ask.specs.Answered.{IsSent};
 
+use crate::audit::answer_for;
 use crate::messages::{FINE, INCOMPLETE, REFUSED, tell_fault};
-use squall_cli_boards::{Answer, NamedFile, answer_to};
+use squall_cli_boards::{Answer, NamedFile};
 use squall_cli_command::{Ask, Inquiry};
 use squall_cli_device::{DeviceFault, Sink};
 use squall_cli_lines::{RunFault, send};
@@ -119,7 +120,7 @@ pub fn answer_files<O: Sink, E: Sink>(
     ensures device { result ≡ 3 → OutputFails (O.state out.old) (O.state out.new) }
     ensures heeds { result ≢ 3 → NoWriteFails (O.state out.old) (O.state out.new) }
 {
-    let Ok(answer) = answer_to(alloc, ask.inquiry, &ask.words, files) else {
+    let Ok(answer) = answer_for(alloc, ask.inquiry, &ask.words, files) else {
         return tell_fault(RunFault::NoMemory, err);
     };
     if is_aside(ask.inquiry, &answer) {

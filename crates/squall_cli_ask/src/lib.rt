@@ -8,6 +8,7 @@
 #![tactic(auto)]
 
 mod answer;
+mod audit;
 mod files;
 mod inquiry;
 mod keys;

@@ -34,6 +34,7 @@ pub mod Routes
 pub mod Courses
 pub mod Joined
 pub mod Plans
+pub mod PlansLaws
 pub mod Planned
 pub mod ReportWords
 pub mod Inquiries

@@ -30,14 +30,14 @@ impl NamedFile {
     }
 
     /// Its name.
-    pub(crate) fn name(&self) -> &str
+    pub fn name(&self) -> &str
         ensures { result.now ≡ self.now.name }
     {
         &self.name
     }
 
     /// Its bytes.
-    pub(crate) fn bytes(&self) -> &[u8]
+    pub fn bytes(&self) -> &[u8]
         ensures { result.now ≡ self.now.bytes }
     {
         &self.bytes

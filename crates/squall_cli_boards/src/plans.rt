@@ -70,7 +70,7 @@ fn shown_issue(alloc: Global, number: u32, old: &Plan, new: &Plan) -> Result<Ans
 
 /// The frame of the report that the reconfiguration of that number leads from the plan of the first
 /// file to that of the second. A file that is no plan is refused.
-#[tactic(auto, using(crate::proofs::PlansRead::refused_answers))]
+#[tactic(auto, using(crate::specs::PlansLaws::refused_answers))]
 fn issue_answer(alloc: Global, number: u32, files: &[NamedFile]) -> Result<Answer, AllocError>
     requires { 1 ≤ number }
     ensures { IfOk result (λ a. AnswersFirstPlans Lines (ShowsIssue number) files.now a) }

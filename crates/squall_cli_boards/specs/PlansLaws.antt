@@ -1,4 +1,4 @@
--- What the answer is where one of two plans is refused.
+-- Laws of two plans that were read: what the answer is if one of them is refused.
 use Rattle.std.proofs.Common.{◌≡◌, List, Result, Ok, Err, sym}
 use Rattle.std.proofs.lemmas.Option.{none-some, same_Some}
 use Rattle.std.specs.Prelude.{codes, Some}
