@@ -1,5 +1,5 @@
 -- Events that are written as they are: where they happen, what is written, and what they leave.
-use Rattle.std.proofs.Common.{◌≡◌, ℕ, [], ◌∷◌, ◌++◌, true, false, refl, sym, ap, ◌∙◌, subst, true≢false}
+use Rattle.std.proofs.Common.{◌≡◌, ℕ, [], ◌∷◌, ◌++◌, false, refl, sym, ap, subst, true≢false}
 use Rattle.std.specs.Prelude.{Some}
 use Rattle.squall_report.specs.Queries.{Queries}
 use Rattle.squall_protocol.specs.Chunks.{ChunkValue}
@@ -15,7 +15,7 @@ use Rattle.squall_protocol.specs.Steps.{Step}
 use Rattle.squall_protocol.specs.WorldLaws.{same_world}
 use Rattle.squall_protocol.proofs.OneStep.{one_step}
 use Rattle.squall_audit.specs.Apart.{IsAt}
-use Rattle.squall_audit.specs.Lines.{Line, Own, Gift, Arrival, Saying, Hearing, IsLine, IsNotYet, Happens}
+use Rattle.squall_audit.specs.Lines.{Line, Own, Gift, Arrival, Hearing, IsLine, IsNotYet}
 use Rattle.squall_audit.specs.Logs.{is_sent, Comes}
 use Rattle.squall_audit.proofs.OneLine.{IsOwn, IsGiven, own_line, gift_line}
 use Rattle.squall_judge.specs.Turns.{place_of, IsDone}

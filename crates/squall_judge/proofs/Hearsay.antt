@@ -1,5 +1,5 @@
 -- What comes of a report that a node received.
-use Rattle.std.proofs.Common.{◌≡◌, ◌⊎◌, ◌<◌, ℕ, ◌==◌, ◌&&◌, Bool, [], ◌∷◌, ◌++◌, List, length, true, false, refl, sym, ap, ◌∙◌, subst, inl, inr, ⊎_elim, true≢false, arith}
+use Rattle.std.proofs.Common.{◌≡◌, ℕ, ◌==◌, ◌&&◌, Bool, [], ◌∷◌, ◌++◌, List, length, true, false, refl, sym, ap, ◌∙◌, subst, inl, inr, ⊎_elim, true≢false, arith}
 use Rattle.std.specs.Prelude.{None, Some}
 use Rattle.std.specs.List.{slice_get}
 use Rattle.std.proofs.lemmas.Bool.{and_parts, eq-eqb}
@@ -25,10 +25,10 @@ use Rattle.squall_protocol.specs.Steps.{IsPartOf, after_told, SendPartStep, Deli
 use Rattle.squall_protocol.specs.WorldLaws.{same_world}
 use Rattle.squall_protocol.specs.Promises.{IsReached}
 use Rattle.squall_protocol.proofs.Lists.{at_end, at_one}
-use Rattle.squall_audit.specs.Lines.{Line, Hearing}
-use Rattle.squall_audit.specs.Logs.{CanBeHeard, Rooted, OriginsKnow, Comes, CanCome, after_heard}
+use Rattle.squall_audit.specs.Lines.{Hearing}
+use Rattle.squall_audit.specs.Logs.{CanBeHeard, Rooted, OriginsKnow, after_heard}
 use Rattle.squall_audit.proofs.Heard.{told_alone, same_cell_part}
-use Rattle.squall_judge.specs.declared.turn.Turn.TheVariants.{Taken, Waits, Never}
+use Rattle.squall_judge.specs.declared.turn.Turn.TheVariants.{Taken, Waits}
 use Rattle.squall_judge.specs.Turns.{origin_of, IsTurn}
 
 -- ---- what is known where it comes from

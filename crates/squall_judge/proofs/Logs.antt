@@ -1,20 +1,17 @@
 -- Of logs the lines of each node, and the first of them.
-use Rattle.std.proofs.Common.{◌≡◌, ◌⊎◌, ℕ, zero, suc, ◌+◌, ◌<◌, ◌≤◌, true, false, List, [], ◌∷◌, ◌++◌, length, map, take, drop, set, replicate, Some, refl, sym, ap, ap₂, ◌∙◌, subst, inl, inr, ⊎_elim, arith, take-append-drop}
+use Rattle.std.proofs.Common.{◌≡◌, ◌⊎◌, ℕ, zero, suc, ◌+◌, ◌<◌, ◌≤◌, true, false, List, [], ◌∷◌, ◌++◌, length, map, take, drop, set, replicate, Some, refl, sym, ap, ◌∙◌, subst, inl, inr, ⊎_elim, arith, take-append-drop}
 use Rattle.std.specs.Prelude.{if◌then◌else◌}
 use Rattle.std.specs.List.{slice_get}
 use Rattle.std.proofs.lemmas.Bool.{cases_Bool, cond-true, cond-false}
-use Rattle.std.proofs.lemmas.Option.{slice_get_within}
 use Rattle.squall_protocol.specs.declared.event.Node.{Node}
 use Rattle.squall_protocol.specs.Worlds.{WorldValue, same_node}
 use Rattle.squall_protocol.specs.Promises.{IsReached}
-use Rattle.squall_audit.specs.Apart.{Grows}
-use Rattle.squall_audit.specs.Lines.{Line, Own, Gift, Arrival, Hearing}
 use Rattle.squall_audit.specs.Logs.{HasLogs, AreFirst, Comes, IsOfOneReport, WhatComesHappens, with_lines}
 use Rattle.squall_audit.proofs.Views.{same_self, same_nodes}
 use Rattle.squall_judge.specs.declared.log.Entry.{Entry}
 use Rattle.squall_judge.specs.declared.log.Entry.TheVariants.{Own as OwnEntry, Gift as GiftEntry, Arrival as ArrivalEntry, Heard as HeardEntry}
 use Rattle.squall_judge.specs.declared.log.Log.{Log}
-use Rattle.squall_judge.specs.Entries.{line_of, lines_in, logs_of, taken_of, IsLogAt, AreApart}
+use Rattle.squall_judge.specs.Entries.{line_of, lines_in, logs_of, taken_of, AreApart}
 
 -- ---- lists
 

@@ -1,11 +1,10 @@
 -- What comes of an entry at its node.
-use Rattle.std.proofs.Common.{◌≡◌, ◌≢◌, ◌⊎◌, ◌<◌, ℕ, [], ◌∷◌, ◌++◌, List, length, true, false, refl, sym, ap, ◌∙◌, subst, inl, inr, ⊎_elim, true≢false, arith}
+use Rattle.std.proofs.Common.{◌≡◌, ℕ, [], ◌∷◌, ◌++◌, List, refl, sym, ap, ◌∙◌, subst}
 use Rattle.std.specs.Prelude.{None, Some}
 use Rattle.std.specs.List.{slice_get}
 use Rattle.squall_protocol.specs.Chunks.{ChunkValue}
-use Rattle.squall_report.specs.Queries.{Queries}
 use Rattle.squall_protocol.specs.declared.event.Node.{Node}
-use Rattle.squall_protocol.specs.declared.event.Node.TheVariants.{Leader, Part, Router}
+use Rattle.squall_protocol.specs.declared.event.Node.TheVariants.{Part}
 use Rattle.squall_protocol.specs.declared.event.Event.{Event}
 use Rattle.squall_protocol.specs.declared.event.Event.TheVariants.{Load}
 use Rattle.squall_protocol.specs.declared.answer.Answer.{Answer}
@@ -17,10 +16,10 @@ use Rattle.squall_protocol.specs.WorldLaws.{same_world}
 use Rattle.squall_protocol.proofs.Lists.{at_one}
 use Rattle.squall_protocol.proofs.OneStep.{one_step}
 use Rattle.squall_audit.specs.Apart.{IsAt}
-use Rattle.squall_audit.specs.Lines.{Line, Own, Gift, Arrival, IsNotYet}
-use Rattle.squall_audit.specs.Logs.{Comes, CanCome}
+use Rattle.squall_audit.specs.Lines.{Own, Gift, Arrival, IsNotYet}
+use Rattle.squall_audit.specs.Logs.{Comes}
 use Rattle.squall_audit.proofs.OneLine.{IsArrived, arrival_line, load_at}
-use Rattle.squall_judge.specs.declared.turn.Turn.TheVariants.{Taken, Waits, Never}
+use Rattle.squall_judge.specs.declared.turn.Turn.TheVariants.{Taken, Waits}
 use Rattle.squall_judge.specs.Turns.{IsTurn, IsOther, IsDone, IsMade}
 use Rattle.squall_judge.proofs.Events.{NotGiven, own_comes, gift_comes, own_done, gift_done, same_chunks, given_chunks}
 

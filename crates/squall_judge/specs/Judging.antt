@@ -10,6 +10,14 @@ use Rattle.squall_judge.specs.declared.judgment.Judgment.{Judgment}
 use Rattle.squall_judge.specs.declared.judgment.Judgment.TheVariants.{Accepted, Refused}
 use Rattle.squall_judge.specs.Entries.{logs_of, taken_of, AreRouters}
 
+-- of each log so many entries are all that it has
+abbrev pub AreAllTaken : List Log → List ℕ → Type 0
+AreAllTaken logs taken = (i n : ℕ) (log : Log) → slice_get logs i ≡ Some log → slice_get taken i ≡ Some n → length log.entries.items ≤ n
+
+-- some log has more entries than so many
+abbrev pub HasMore : List Log → List ℕ → Type 0
+HasMore logs taken = (i : ℕ) × (n : ℕ) × (log : Log) × (slice_get logs i ≡ Some log) × (slice_get taken i ≡ Some n) × (n < length log.entries.items)
+
 -- a run from the world has the logs, and so all that holds in every run holds where it ends
 pub record IsAccepted (s : WorldValue) (logs : List Log) : Type 0 where
   pub world : WorldValue
@@ -24,7 +32,7 @@ pub record IsRefused (s : WorldValue) (logs : List Log) (taken : List ℕ) : Typ
   pub first : AreFirst (taken_of logs taken) (logs_of logs)
   pub each : length taken ≡ length logs
   pub within : (i n : ℕ) (log : Log) → slice_get logs i ≡ Some log → slice_get taken i ≡ Some n → n ≤ length log.entries.items
-  pub left : (i : ℕ) × (n : ℕ) × (log : Log) × (slice_get logs i ≡ Some log) × (slice_get taken i ≡ Some n) × (n < length log.entries.items)
+  pub left : HasMore logs taken
   pub none : NoRunHasMore s (logs_of logs) (taken_of logs taken)
 
 abbrev pub IsJudgedFrom : WorldValue → List Log → Judgment → Type 0

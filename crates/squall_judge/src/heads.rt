@@ -11,10 +11,8 @@ use crate::judgment::JudgeFault;
 use crate::log::Log;
 use crate::turn::same_node;
 use squall_protocol::Node;
+use squall_world::MOST_ROUTERS;
 use std::alloc::{AllocError, Global};
-
-/// The most routers that a world may have.
-const MOST_ROUTERS: u32 = 1000;
 
 /// Whether a log before the place is of that node.
 fn is_before(logs: &[Log], end: usize, node: &Node) -> bool

@@ -7,7 +7,7 @@ ghost use Rattle.squall_judge.specs.declared.judgment.JudgeFault.TheVariants.{Tw
 ghost use Rattle.squall_judge.specs.declared.log.Log.{Log};
 ghost use Rattle.squall_judge.specs.Entries.{AreApart, HasTwoLogs, HasNoRouter};
 ghost use Rattle.squall_judge.specs.Merges.{AreCut, IsEnd};
-ghost use Rattle.squall_judge.specs.Judging.{IsJudged};
+ghost use Rattle.squall_judge.specs.Judging.{AreAllTaken, HasMore, IsJudged};
 
 use crate::heads::{are_apart, lengths_of, routers_of};
 use crate::judgment::{JudgeFault, Judgment};
@@ -20,8 +20,8 @@ use std::alloc::Global;
 /// Whether all entries of each log were taken.
 fn are_all(logs: &[Log], taken: &[usize]) -> bool
     requires { length taken.now ≡ length logs.now }
-    ensures all { IsTrue result → (i n : ℕ) (log : Log) → slice_get logs.now i ≡ Some log → slice_get taken.now i ≡ Some n → length log.entries.items ≤ n }
-    ensures some { IsFalse result → (i : ℕ) × (n : ℕ) × (log : Log) × (slice_get logs.now i ≡ Some log) × (slice_get taken.now i ≡ Some n) × (n < length log.entries.items) }
+    ensures all { IsTrue result → AreAllTaken logs.now taken.now }
+    ensures some { IsFalse result → HasMore logs.now taken.now }
 {
     for at in 0..logs.len() {
         let log = &logs[at];

@@ -143,7 +143,8 @@ impl Stage {
     /// Takes the entry of a report that the node received, if the node from which it comes knows it.
     fn heard(&mut self, node: &Node, report: &Report) -> Result<Turn, AllocError>
         requires { KnowsChunks self.old }
-        ensures { IfOk result (λ turn. IsTurn (view self.old.world) node.now (Hearing (queries_by_report report.now)) turn (view self.new.world) self.new.chunks.items) }
+        ensures { IfOk result (λ turn. IsTurn (view self.old.world) node.now (Hearing (queries_by_report report.now)) turn
+            (view self.new.world) self.new.chunks.items) }
     {
         self.world.promised();
         if !is_there(&self.world, node) {

@@ -1,6 +1,5 @@
-use Rattle.std.proofs.Common.{◌≡◌, ℕ, ◌<◌, ◌∙◌, length, refl, sym, ap, subst, arith}
+use Rattle.std.proofs.Common.{◌<◌, ◌∙◌, length, refl, sym, ap, subst}
 use Rattle.std.proofs.lemmas.Option.{slice_get_read}
-use Rattle.squall_protocol.specs.declared.event.Node.{Node}
 use Rattle.squall_judge.specs.declared.log.Log.{Log}
 use Rattle.squall_judge.specs.Entries.{IsLogAt}
 use Rattle.squall_judge.proofs.Nodes.{below, node_of, apart_from}

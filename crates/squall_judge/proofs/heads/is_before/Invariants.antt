@@ -1,4 +1,4 @@
-use Rattle.std.proofs.Common.{◌≡◌, ℕ, ◌<◌}
+use Rattle.std.proofs.Common.{ℕ, ◌<◌}
 use Rattle.squall_judge.specs.Entries.{IsLogAt}
 use Rattle.squall_judge.proofs.heads.is_before.Given as goal
 

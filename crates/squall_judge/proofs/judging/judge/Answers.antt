@@ -1,4 +1,3 @@
-use Rattle.std.proofs.Common.{◌≡◌, sym, subst, ◌∙◌}
 use Rattle.squall_protocol.specs.Worlds.{start}
 use Rattle.squall_judge.proofs.Nodes.{apart_not_two}
 use Rattle.squall_judge.proofs.Ends.{accepted, refused}

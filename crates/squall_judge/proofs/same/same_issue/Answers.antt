@@ -1,5 +1,5 @@
-use Rattle.std.proofs.Common.{◌≡◌, true, false, sym, ap, ◌∙◌, true≢false}
-use Rattle.squall_report.specs.Issues.{PlanPair, is_same_pair}
+use Rattle.std.proofs.Common.{sym, ap, ◌∙◌, true≢false}
+use Rattle.squall_report.specs.Issues.{is_same_pair}
 use Rattle.squall_report.specs.IssueLaws.{same_pairs_are_equal}
 use Rattle.squall_judge.proofs.same.same_issue.Goals as goal
 

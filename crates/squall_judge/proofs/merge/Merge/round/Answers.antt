@@ -1,4 +1,4 @@
-use Rattle.std.proofs.Common.{ℕ, ◌<◌, length, subst, arith}
+use Rattle.std.proofs.Common.{subst, arith}
 use Rattle.squall_judge.specs.Merges.{IsBlocked, IsNext, world_of}
 use Rattle.squall_judge.proofs.Nodes.{below}
 use Rattle.squall_judge.proofs.Merges.{same_taken, same_wrong, same_both, same_blocked}

@@ -1,4 +1,4 @@
-use Rattle.std.proofs.Common.{◌≡◌, ◌∙◌, sym, subst}
+use Rattle.std.proofs.Common.{◌∙◌, sym, subst}
 use Rattle.squall_world.specs.Views.{view}
 use Rattle.squall_audit.specs.Lines.{Gift}
 use Rattle.squall_judge.specs.declared.turn.Turn.TheVariants.{Taken}

@@ -1,6 +1,6 @@
-use Rattle.std.proofs.Common.{◌≡◌, ◌∙◌, sym, ap, subst}
+use Rattle.std.proofs.Common.{◌∙◌, sym, subst}
 use Rattle.squall_report.specs.Queries.{queries_by_report}
-use Rattle.squall_protocol.specs.Steps.{SendPartStep, DeliverStep}
+use Rattle.squall_protocol.specs.Steps.{SendPartStep}
 use Rattle.squall_world.specs.Views.{view}
 use Rattle.squall_judge.specs.Turns.{origin_of}
 use Rattle.squall_judge.proofs.Hearsay.{heard_absent, heard_unknown, heard_taken}

@@ -1,4 +1,4 @@
-use Rattle.std.proofs.Common.{◌≡◌, ◌∙◌, sym, subst}
+use Rattle.std.proofs.Common.{◌∙◌, subst}
 use Rattle.squall_world.specs.Views.{view}
 use Rattle.squall_judge.specs.Turns.{IsDone, IsMade}
 use Rattle.squall_judge.proofs.Events.{NotGiven}

@@ -1,0 +1,9 @@
+//! Tests of judges of logs, over public names alone. There is nothing here to call.
+#![tactic(auto)]
+
+#[cfg(test)]
+mod check;
+#[cfg(test)]
+mod entries;
+#[cfg(test)]
+mod judging;
