@@ -42,7 +42,13 @@ pub(crate) fn heard_load() -> Option<Entry> {
 
 /// The chunk of keys in sub-plan 0.
 pub(crate) fn chunk(source: u32, dest: u32, lo: &str, hi: &str) -> Option<Chunk> {
-    Chunk::new(1, 0, PartId::new(source)?, PartId::new(dest)?, span(lo, hi)?)
+    Chunk::new(
+        1,
+        0,
+        PartId::new(source)?,
+        PartId::new(dest)?,
+        span(lo, hi)?,
+    )
 }
 
 /// The source gave all the keys.

@@ -32,12 +32,20 @@ fn stops(alloc: Global, logs: &[Log], counts: &[usize]) -> Option<bool> {
 
 /// The leader opens the sub-plan, and hears that it is done.
 fn leader(alloc: Global) -> Option<Log> {
-    log(alloc, Node::Leader, [opened(0), heard_done(3)?, heard_done(4)?])
+    log(
+        alloc,
+        Node::Leader,
+        [opened(0), heard_done(3)?, heard_done(4)?],
+    )
 }
 
 /// Partition 1 gives its keys.
 fn first(alloc: Global) -> Option<Log> {
-    log(alloc, part(1)?, [heard_opening()?, gave(1, 3, "2:0", "3:0")?])
+    log(
+        alloc,
+        part(1)?,
+        [heard_opening()?, gave(1, 3, "2:0", "3:0")?],
+    )
 }
 
 /// Partition 3 gives its keys, loads those of partition 1, and holds the first of them.
@@ -60,7 +68,11 @@ fn fourth(alloc: Global) -> Option<Log> {
 
 /// A router sends the key 2:0 to partition 1, hears of the load, and sends it to partition 3.
 fn router(alloc: Global) -> Option<Log> {
-    log(alloc, Node::Router(0), [routed(1)?, heard_load()?, routed(3)?])
+    log(
+        alloc,
+        Node::Router(0),
+        [routed(1)?, heard_load()?, routed(3)?],
+    )
 }
 
 /// A run of two moves, its logs in an order in which each waits for later ones.
@@ -78,6 +90,11 @@ fn clean(alloc: Global) -> Option<bool> {
 #[test]
 fn a_clean_run_is_accepted(rt: HostRuntime) {
     holds!(&rt; clean(rt.alloc()) == Some(true));
+}
+
+#[test]
+fn tolerant_judge(rt: HostRuntime) {
+    let _accepted = clean(rt.alloc());
 }
 
 /// Partition 3 says that the key is not there yet.
@@ -104,7 +121,11 @@ fn no_opening(alloc: Global) -> Option<bool> {
 
 /// Partition 1 gives before it has heard of the opening.
 fn early_gift(alloc: Global) -> Option<bool> {
-    let early = log(alloc, part(1)?, [gave(1, 3, "2:0", "3:0")?, heard_opening()?])?;
+    let early = log(
+        alloc,
+        part(1)?,
+        [gave(1, 3, "2:0", "3:0")?, heard_opening()?],
+    )?;
     stops(alloc, &[leader(alloc)?, early], &[1, 0])
 }
 
@@ -127,7 +148,11 @@ fn a_load_without_its_gift_is_refused(rt: HostRuntime) {
 
 /// Nobody loaded what the router heard of.
 fn hearsay(alloc: Global) -> Option<bool> {
-    stops(alloc, &[first(alloc)?, leader(alloc)?, router(alloc)?], &[2, 1, 1])
+    stops(
+        alloc,
+        &[first(alloc)?, leader(alloc)?, router(alloc)?],
+        &[2, 1, 1],
+    )
 }
 
 #[test]
@@ -148,7 +173,11 @@ fn an_early_opening_is_refused(rt: HostRuntime) {
 
 /// Partition 1 gives the key 2:0 twice. Its log is cut there, and all others go on.
 fn twice(alloc: Global) -> Option<bool> {
-    let twice = log(alloc, part(1)?, [heard_opening()?, gave_key()?, gave_key()?])?;
+    let twice = log(
+        alloc,
+        part(1)?,
+        [heard_opening()?, gave_key()?, gave_key()?],
+    )?;
     stops(alloc, &[leader(alloc)?, twice, fourth(alloc)?], &[1, 2, 1])
 }
 
@@ -169,7 +198,10 @@ fn empty_logs_are_accepted(rt: HostRuntime) {
 
 /// Two logs of one node, and a log of a router that no world has.
 fn faults(alloc: Global) -> Option<bool> {
-    let two = matches!(judged(alloc, &[router(alloc)?, router(alloc)?])?, Err(JudgeFault::TwoLogs));
+    let two = matches!(
+        judged(alloc, &[router(alloc)?, router(alloc)?])?,
+        Err(JudgeFault::TwoLogs)
+    );
     let far = log(alloc, Node::Router(1000), [])?;
     let many = matches!(judged(alloc, &[far])?, Err(JudgeFault::TooManyRouters));
     Some(two && many)

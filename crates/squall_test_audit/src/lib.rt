@@ -3,6 +3,7 @@
 
 #[cfg(test)]
 mod check;
+pub mod client;
 #[cfg(test)]
 mod entries;
 #[cfg(test)]
