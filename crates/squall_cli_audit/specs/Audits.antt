@@ -70,15 +70,13 @@ pub record ShowsVerdict (old new : List PlanRange) (files : List FileValue) (end
   pub are : AreLogsOf files logs numbers
   pub verdict : ShowsLogs old new files logs numbers ended shown
 
--- the text names the first file that is no log, and its first bad line
+-- one file is no log, and the text names the first such file and its first bad line
 pub record ShowsBad (files : List FileValue) (ended : Ended) (shown : List ℕ) : Type 0 where
   pub index : ℕ
   pub number : ℕ
   pub first : IsFirstBadFile files index number
-  pub file : FileValue
-  pub there : slice_get files index ≡ Some file
   pub refused : ended ≡ Refused
-  pub text : shown ≡ bad_text file.name number
+  pub text : shown ≡ bad_text first.file.name number
 
 -- what an audit of these files may show, by how it ended, if the first plans are these
 abbrev pub MayShow : List PlanRange → List PlanRange → List FileValue → Ended → List ℕ → Type 0

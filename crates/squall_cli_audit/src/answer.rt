@@ -15,7 +15,7 @@ use squall_judge::{JudgeFault, Judgment, Log, judge};
 use squall_plan::Plan;
 use std::alloc::{AllocError, Global};
 
-/// The log that is the cause. None for want of memory.
+/// The log for which the logs are not judged. None if memory is the cause.
 fn cause_of(logs: &[Log], fault: &JudgeFault) -> Option<usize>
     ensures cause { IfSome result (λ at. IsCause logs.now fault.now at) }
     ensures there { IfSome result (λ at. at < length logs.now) }
