@@ -34,7 +34,7 @@ abbrev pub picture_shape : Shape
 picture_shape = (of_boards (codes "picture")).top
 
 abbrev pub watch_shape : Shape
-watch_shape = (with_rule (of_plans (codes "watch")) (flag_rule (codes "json"))).top
+watch_shape = (with_rule (with_rule (of_plans (codes "watch")) (flag_rule (codes "json"))) (flag_rule (codes "until-complete"))).top
 
 abbrev pub route_shape : Shape
 route_shape = (with_rule (with_rule (of_plans (codes "route")) (files_rule (codes "KEY"))) (option_rule (codes "board"))).top

@@ -39,11 +39,15 @@ ends the answers.
 With --json each frame that changes the object of squall status --json is answered with that object,
 on one line.
 
+With --until-complete the command ends with status 0 after the frame with which each move of the
+newest course is complete, and reads no more. If the input ends before that, the status is 5.
+
 If standard error is a terminal, a bar there shows how many moves and sub-plans are complete.
 
 Example:
   tail -c +1 -f board.bin | squall watch old.json new.json
-  tail -c +1 -f board.bin | squall watch --json old.json new.json";
+  tail -c +1 -f board.bin | squall watch --json old.json new.json
+  tail -c +1 -f board.bin | squall watch --until-complete old.json new.json >/dev/null && echo complete";
 
 const ROUTE: &str =
     "OLD and NEW are the plans of the first course. A key is written ROOT:SECOND, as 2:0. The
@@ -144,7 +148,7 @@ pub(crate) fn picture_command<'a>(alloc: Global) -> Result<Command<'a>, AllocErr
     )
 }
 
-/// `watch OLD NEW [--json]`
+/// `watch OLD NEW [--json] [--until-complete]`
 pub(crate) fn watch_command<'a>(alloc: Global) -> Result<Command<'a>, AllocError>
     ensures shape { IfOk result (λ c. shape_of c ≡ watch_shape) }
     ensures globals { IfOk result (λ c. (fields_of c).has_globals ≡ false) }
@@ -155,7 +159,12 @@ pub(crate) fn watch_command<'a>(alloc: Global) -> Result<Command<'a>, AllocError
         "Shows how far the newest course is, as frames come on standard input",
         WATCH,
     )?
-    .arg(json(alloc))
+    .arg(json(alloc))?
+    .arg(flag(
+        alloc,
+        "until-complete",
+        "Ends once each move of the newest course is complete",
+    ))
 }
 
 /// `route OLD NEW [KEY].. [--board FILE]..`

@@ -6,6 +6,7 @@ ghost use Rattle.squall_cli_command.specs.declared.inquiry.Inquiry.TheVariants.{
 ghost use Rattle.squall_cli_command.specs.declared.stream.Stream.TheVariants.{Keys, Frames};
 ghost use Rattle.squall_cli_command.specs.declared.form.Form.TheVariants.{Lines, Json};
 ghost use Rattle.squall_cli_command.specs.Asking.{status_asked};
+ghost use Rattle.squall_cli_command.specs.Streams.{watch_asked};
 ghost use Rattle.squall_cli_command.specs.Line.{Asks, AsksForHelp, IsFaulty, faults_in, check, course, run, ask, stream};
 
 /// Standard input is run without a command, and by `run -`; it is checked by `check -`.
@@ -68,11 +69,16 @@ pub fn keys_of_standard_input()
     ensures dash { (name : Text) → Asks (name ∷ codes "route" ∷ codes "o" ∷ codes "n" ∷ codes "-" ∷ []) (stream Keys (codes "o" ∷ codes "n" ∷ [])) }
 {}
 
-/// `watch` reads frames from standard input. Its files are the two plans.
+/// `watch` reads frames from standard input. Its files are the two plans. A flag is no file, and
+/// changes what is asked.
 pub fn frames_of_standard_input()
-    ensures lines { (name : Text) → Asks (name ∷ codes "watch" ∷ codes "o" ∷ codes "n" ∷ []) (stream (Frames Lines) (codes "o" ∷ codes "n" ∷ [])) }
+    ensures lines { (name : Text) → Asks (name ∷ codes "watch" ∷ codes "o" ∷ codes "n" ∷ []) (stream (Frames (watch_asked Lines false)) (codes "o" ∷ codes "n" ∷ [])) }
     ensures json { (name : Text) → Asks (name ∷ codes "watch" ∷ codes "o" ∷ codes "--json" ∷ codes "n" ∷ [])
-        (stream (Frames Json) (codes "o" ∷ codes "n" ∷ [])) }
+        (stream (Frames (watch_asked Json false)) (codes "o" ∷ codes "n" ∷ [])) }
+    ensures until { (name : Text) → Asks (name ∷ codes "watch" ∷ codes "--until-complete" ∷ codes "o" ∷ codes "n" ∷ [])
+        (stream (Frames (watch_asked Lines true)) (codes "o" ∷ codes "n" ∷ [])) }
+    ensures both { (name : Text) → Asks (name ∷ codes "watch" ∷ codes "o" ∷ codes "n" ∷ codes "--until-complete" ∷ codes "--json" ∷ [])
+        (stream (Frames (watch_asked Json true)) (codes "o" ∷ codes "n" ∷ [])) }
 {}
 
 /// `--json` is no file either: it asks for the same as JSON.

@@ -19,5 +19,5 @@ mod task;
 pub use form::Form;
 pub use inquiry::{Ask, Inquiry, StatusAsk};
 pub use line::{command, message};
-pub use stream::{Follow, Stream};
+pub use stream::{Follow, Stream, WatchAsk};
 pub use task::{LineFault, Task};

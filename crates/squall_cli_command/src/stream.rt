@@ -4,12 +4,21 @@ ghost use Rattle.std.specs.Prelude.{◌≡◌, map, string_bytes, IfOk};
 ghost use Rattle.clap.specs.Words.{found_of, rows_of};
 ghost use Rattle.squall_cli_command.specs.Line.{words_of};
 ghost use Rattle.squall_cli_command.specs.Asking.{words_in};
-ghost use Rattle.squall_cli_command.specs.Streams.{is_input_alone, reads_keys, stream_in, stream_files};
+ghost use Rattle.squall_cli_command.specs.Streams.{is_input_alone, reads_keys, watch_in, stream_in, stream_files};
 
-use crate::form::{Form, form_of};
+use crate::form::{Form, form_of, is_set};
 use crate::inquiry::words_in;
 use clap::ArgMatches;
 use std::alloc::{AllocError, Global};
+
+/// How a course is watched.
+#[derive(Clone, Copy, Debug, PartialEq, Eq)]
+pub struct WatchAsk {
+    /// How its status is written.
+    pub form: Form,
+    /// Whether the watch ends once the newest course is complete.
+    pub is_until_complete: bool,
+}
 
 /// What is asked of standard input as it comes.
 #[derive(Clone, Copy, Debug, PartialEq, Eq)]
@@ -17,9 +26,9 @@ pub enum Stream {
     /// The routes of the keys that its lines write, by the newest course. The files are the old plan,
     /// the new plan and board files.
     Keys,
-    /// How far the newest course comes, as the frames of boards say, as lines or as JSON. The files
-    /// are the old plan and the new plan.
-    Frames(Form),
+    /// How far the newest course comes, as the frames of boards say. The files are the old plan and
+    /// the new plan.
+    Frames(WatchAsk),
 }
 
 /// A stream with the files that are read before it.
@@ -53,6 +62,16 @@ fn reads_keys(matches: &ArgMatches) -> bool
     }
 }
 
+/// How the words ask to watch a course.
+fn watch_of(matches: &ArgMatches) -> WatchAsk
+    ensures { result ≡ watch_in (rows_of (found_of matches.now)) }
+{
+    WatchAsk {
+        form: form_of(matches),
+        is_until_complete: is_set(matches, "until-complete"),
+    }
+}
+
 /// What a command asks of standard input as it comes. None if it asks nothing of it.
 pub(crate) fn stream_of(name: &str, matches: &ArgMatches) -> Option<Stream>
     ensures { result ≡ stream_in name.now (rows_of (found_of matches.now)) }
@@ -61,7 +80,7 @@ pub(crate) fn stream_of(name: &str, matches: &ArgMatches) -> Option<Stream>
         return Some(Stream::Keys);
     }
     if name == "watch" {
-        return Some(Stream::Frames(form_of(matches)));
+        return Some(Stream::Frames(watch_of(matches)));
     }
     None
 }

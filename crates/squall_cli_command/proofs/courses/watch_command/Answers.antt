@@ -5,10 +5,11 @@ use Rattle.squall_cli_command.proofs.courses.watch_command.Goals as goal
 
 pub returns-clause-shape : goal.returns-clause-shape
 returns-clause-shape c =
-    IfOk-weaker c.arg.result _ _
-    (λ r h. ap (λ (a : App). a.top) (h.shape c.json.ensures.global ∙ ap₂ with_rule c.in_ok-of_plans.ensures.app c.json.ensures.rule)) c.arg.ensures
+    let first = c.in_ok-arg.ensures.shape c.json.ensures.global ∙ ap₂ with_rule c.in_ok-of_plans.ensures.app c.json.ensures.rule in
+    IfOk-weaker c.arg-2.result _ _
+    (λ r h. ap (λ (a : App). a.top) (h.shape c.flag.ensures.global ∙ ap₂ with_rule first c.flag.ensures.rule)) c.arg-2.ensures
 
 pub returns-clause-globals : goal.returns-clause-globals
 returns-clause-globals c =
-    IfOk-weaker c.arg.result _ _
-    (λ r h. h.globals ∙ ap₂ ◌||◌ c.in_ok-of_plans.ensures.globals c.json.ensures.global) c.arg.ensures
+    let first = c.in_ok-arg.ensures.globals ∙ ap₂ ◌||◌ c.in_ok-of_plans.ensures.globals c.json.ensures.global in
+    IfOk-weaker c.arg-2.result _ _ (λ r h. h.globals ∙ ap₂ ◌||◌ first c.flag.ensures.global) c.arg-2.ensures
