@@ -65,6 +65,14 @@ class Drawn:
                 board.issue(number, self.pairs[number - 1] if self.draw.randrange(3) else self.draw.choice(self.pairs))
         return board
 
+    def whole(self):
+        """A board on which each move of some change is complete."""
+        board, change = Board(), self.draw.choice(self.changes)
+        board.issue(change.number, self.pairs[change.number - 1])
+        for lo, hi, (_, part, sub) in change.moves:
+            board.load((change.number, sub, part), [(lo, hi)])
+        return board
+
     def frames(self, board):
         """Frames that tell the board: one, or several of some items each, in any order and some of them twice."""
         items = [lists for lists, *_ in board.items()]
@@ -163,8 +171,11 @@ def watch(draw):
     drawn = Drawn(draw)
     words = drawn.plans()
     frames = [it for _ in range(draw.randrange(5)) for it in drawn.frames(drawn.board())]
+    until = [["--until-complete"]] if draw.randrange(2) else []
+    if until and draw.randrange(2):
+        frames.insert(draw.randrange(len(frames) + 1), delta_frame(*drawn.whole().listed()))
     drawn.text = drawn.spoil(b"".join(frames))
-    return drawn.trial("watch", drawn.optional(words, *drawn.form()))
+    return drawn.trial("watch", drawn.optional(words, *until, *drawn.form()))
 
 
 def route(draw):

@@ -127,20 +127,27 @@ class Judged(list):
     status = 0
 
 
+def is_complete(board, change):
+    """Whether each move of the change is complete."""
+    return not any(it.startswith("move ") for it in board.status(change, True))
+
+
 def status(words, files, boards, flags):
     """The lines of the status. If it is asked for, status 5 says that a move is not complete."""
     change, board = routed(words, files, [*words[2:], *boards])
     lines = Judged(board.status(change, "--waiting" in flags))
-    if "--exit-status" in flags and any(it.startswith("move ") for it in board.status(change, True)):
+    if "--exit-status" in flags and not is_complete(board, change):
         lines.status = 5
     return lines
 
 
-def watch(words, files, in_form):
-    """The lines of the status, in some form, that each frame of standard input changes."""
+def watch(words, files, flags):
+    """The lines of the status, or its JSON, that each frame of standard input changes. If it is asked for, the frame that makes the
+    newest change complete is the last one, and status 5 says that there was none."""
     if "-" in words:
         raise Refused(INPUT_TAKEN, 2)
-    board, before, shown = Board(), [], []
+    in_form = as_json if "--json" in flags else as_lines
+    board, before, shown = Board(), [], Judged()
     try:
         first = Change(1, files.plan("old", words[0]), files.plan("new", words[1]))
         for message in files.messages("-", "delta", files.read("-")):
@@ -148,8 +155,12 @@ def watch(words, files, in_form):
             now = in_form("status", list(board.status(board.newest(first), False)))
             shown += [line for at, line in enumerate(now) if before[at:at + 1] != [line]]
             before = now
+            if "--until-complete" in flags and is_complete(board, board.newest(first)):
+                return shown
     except Refused as why:
         raise Refused("\n".join([*shown, *in_form("status", [why.line])])) from None
+    if "--until-complete" in flags:
+        shown.status = 5
     return shown
 
 
@@ -234,7 +245,7 @@ def found(command, words, files, boards, flags):
         "report": lambda: report(words, files),
         "board": lambda: files.board(*words).lines(),
         "status": lambda: status(words, files, boards, flags),
-        "watch": lambda: watch(words, files, as_json if "--json" in flags else as_lines),
+        "watch": lambda: watch(words, files, flags),
         "route": lambda: route(words, files, boards),
         "legs": lambda: legs(words, files, boards),
         "merge": lambda: files.board(*words).pieces(),
