@@ -5,17 +5,18 @@ use Rattle.std.specs.Prelude.{map, slice_index_or}
 use Rattle.std.specs.List.{concat}
 use Rattle.squall_wire.specs.declared.fault.WireFault.{WireFault}
 use Rattle.squall_wire.specs.Messages.{Body}
-use Rattle.squall_cli_lines.specs.Script.{Script, after, last_word}
-use Rattle.squall_cli_lines.specs.declared.Flow.TheVariants.{On, End}
 use Rattle.squall_cli_lines.proofs.RunningLemmas.{concat-append}
 use Rattle.squall_cli_boards.specs.Files.{fault_after}
 use Rattle.squall_board.specs.Boards.{BoardValue}
+use Rattle.squall_cli_watch.specs.declared.ending.WatchEnd.{WatchEnd}
+use Rattle.squall_cli_watch.specs.declared.ending.WatchEnd.TheVariants.{Refused}
+use Rattle.squall_cli_watch.specs.declared.ending.Next.TheVariants.{On, End}
+use Rattle.squall_cli_watch.specs.Scripts.{WatchScript, ending, last_word, after}
 use Rattle.squall_cli_watch.specs.Taken.{TakesFrame, TakesFrames}
-use Rattle.squall_cli_watch.specs.Drawn.{joined}
 use Rattle.squall_cli_watch.specs.Drawing.{JoinsFrame, JoinsFrames}
 
-pub after-after : (a b : List (List ℕ)) (s : Script) → after a (after b s) ≡ after (a ++ b) s
-after-after a b s = ap (λ (w : List (List ℕ)). record { answers = w; refused = s.refused }) (sym (append_assoc a b s.answers))
+pub after-after : (a b : List (List ℕ)) (s : WatchScript) → after a (after b s) ≡ after (a ++ b) s
+after-after a b s = ap (λ (w : List (List ℕ)). ending s.ended w) (sym (append_assoc a b s.answers))
 
 -- what is left, from the next one on
 pub next_left : {X Y : Type 0} (f : X → Y) (xs : List X) (n : ℕ) (x : X) → n < length xs → x ≡ slice_index_or xs n x → map f (drop n xs) ≡ f x ∷ map f (drop (n + 1) xs)
@@ -34,48 +35,49 @@ pub texts_alone : (empty out bytes : List ℕ) (texts : List (List ℕ)) → emp
 texts_alone empty out bytes texts none grown is = is ∙ grown ∙ ap (λ w. w ++ concat texts) none
 
 -- These texts are the first answers: whatever answers the frames that are left, and those after them, answers all if the texts come first.
-abbrev pub Begun : (List Body → Option WireFault → Script → Type 0) → (List Body → Option WireFault → Script → Type 0) → List (List ℕ) → List Body → List Body → Type 0
-Begun old now texts left all = (more : List Body) (f : Option WireFault) (s : Script) → now (left ++ more) f s → old (all ++ more) f (after texts s)
+abbrev pub Begun : (List Body → Option WireFault → WatchScript → Type 0) → (List Body → Option WireFault → WatchScript → Type 0) → List (List ℕ) → List Body → List Body → Type 0
+Begun old now texts left all = (more : List Body) (f : Option WireFault) (s : WatchScript) → now (left ++ more) f s → old (all ++ more) f (after texts s)
 
-module _ (old now next : List Body → Option WireFault → Script → Type 0) (texts : List (List ℕ)) (left all : List Body) (begun : Begun old now texts left all) where
+module _ (old now next : List Body → Option WireFault → WatchScript → Type 0) (texts : List (List ℕ)) (left all : List Body) (begun : Begun old now texts left all) where
   -- one frame more
   pub begun_more : (text : List ℕ) (body : Body) (rest : List Body) → left ≡ body ∷ rest → TakesFrame On text now next body → Begun old next (texts ++ text ∷ []) rest all
   begun_more text body rest is taken = λ more f s p.
-      subst (λ (w : Script). old (all ++ more) f w) (after-after texts (text ∷ []) s)
+      subst (λ (w : WatchScript). old (all ++ more) f w) (after-after texts (text ∷ []) s)
       (begun more f (after (text ∷ []) s) (subst (λ b. now (b ++ more) f (after (text ∷ []) s)) (sym is) (taken (rest ++ more) f s p)))
 
   -- one that ends the answers
-  pub begun_ends : (text : List ℕ) (body : Body) (rest : List Body) (fault : Option WireFault) → left ≡ body ∷ rest → TakesFrame End text now next body
-      → TakesFrames End (texts ++ text ∷ []) old next all fault
-  begun_ends text body rest fault is taken = λ tail.
-      subst (λ b. old b (fault_after fault tail) (after texts (last_word text))) (append-nil all)
-      (begun [] (fault_after fault tail) (last_word text)
-      (subst (λ b. now (b ++ []) (fault_after fault tail) (last_word text)) (sym is) (taken (rest ++ []) (fault_after fault tail))))
+  pub begun_ends : (end : WatchEnd) (text : List ℕ) (body : Body) (rest : List Body) (fault : Option WireFault) → left ≡ body ∷ rest → TakesFrame (End end) text now next body
+      → TakesFrames (End end) (texts ++ text ∷ []) old next all fault
+  begun_ends end text body rest fault is taken = λ tail.
+      subst (λ b. old b (fault_after fault tail) (ending end (texts ++ text ∷ []))) (append-nil all)
+      (begun [] (fault_after fault tail) (ending end (text ∷ []))
+      (subst (λ b. now (b ++ []) (fault_after fault tail) (ending end (text ∷ []))) (sym is) (taken (rest ++ []) (fault_after fault tail))))
 
   -- no frame is left
   pub begun_all : left ≡ [] → TakesFrames On texts old now all None
   begun_all is = (refl, λ more f s p. begun more f s (subst (λ b. now (b ++ more) f s) (sym is) p))
 
   -- and a fault follows
-  pub begun_fault : (e : WireFault) (text : List ℕ) → left ≡ [] → now [] (Some e) (last_word text) → TakesFrames End (texts ++ text ∷ []) old next all (Some e)
+  pub begun_fault : (e : WireFault) (text : List ℕ) → left ≡ [] → now [] (Some e) (last_word text) → TakesFrames (End Refused) (texts ++ text ∷ []) old next all (Some e)
   begun_fault e text is p = λ tail.
       subst (λ b. old b (Some e) (after texts (last_word text))) (append-nil all)
       (begun [] (Some e) (last_word text) (subst (λ b. now (b ++ []) (Some e) (last_word text)) (sym is) p))
 
--- These frames are left of all, and a board was made of those before: what is left and what comes after it makes of it what all make of the
--- old one.
-abbrev pub Joining : BoardValue → BoardValue → List Body → List Body → Type 0
-Joining old now left all = (more : List Body) → joined old (all ++ more) ≡ joined now (left ++ more)
+-- These frames are left of all: what they and those after them make now, all make of the old board.
+abbrev pub Joining : (List Body → BoardValue → Type 0) → (List Body → BoardValue → Type 0) → List Body → List Body → Type 0
+Joining old now left all = (more : List Body) (b : BoardValue) → now (left ++ more) b → old (all ++ more) b
 
-module _ (old now next : BoardValue) (left all : List Body) (begun : Joining old now left all) where
-  pub joining_more : (body : Body) (rest : List Body) → left ≡ body ∷ rest → JoinsFrame On now next body → Joining old next rest all
-  joining_more body rest is j = λ more. begun more ∙ ap (λ w. joined now (w ++ more)) is ∙ j (rest ++ more)
+module _ (old now next : List Body → BoardValue → Type 0) (b : BoardValue) (left all : List Body) (begun : Joining old now left all) where
+  pub joining_more : (body : Body) (rest : List Body) → left ≡ body ∷ rest → JoinsFrame On now next b body → Joining old next rest all
+  joining_more body rest is j = λ more e p. begun more e (subst (λ w. now (w ++ more) e) (sym is) (j (rest ++ more) e p))
 
-  pub joining_ends : (body : Body) (rest : List Body) (fault : Option WireFault) → left ≡ body ∷ rest → JoinsFrame End now next body → JoinsFrames End old next all fault
-  joining_ends body rest fault is j = sym (ap (joined old) (append-nil all)) ∙ begun [] ∙ ap (λ w. joined now (w ++ [])) is ∙ j (rest ++ [])
+  pub joining_ends : (end : WatchEnd) (body : Body) (rest : List Body) (fault : Option WireFault) → left ≡ body ∷ rest → JoinsFrame (End end) now next b body
+      → JoinsFrames (End end) old next b all fault
+  joining_ends end body rest fault is j = subst (λ w. old w b) (append-nil all) (begun [] b (subst (λ w. now (w ++ []) b) (sym is) (j (rest ++ []))))
 
-pub joining_all : (old now : BoardValue) (left all : List Body) → Joining old now left all → left ≡ [] → JoinsFrames On old now all None
-joining_all old now left all begun is = (refl, λ more. begun more ∙ ap (λ w. joined now (w ++ more)) is)
+module _ (old now : List Body → BoardValue → Type 0) (b : BoardValue) (left all : List Body) (begun : Joining old now left all) (none : left ≡ []) where
+  pub joining_all : JoinsFrames On old now b all None
+  joining_all = (refl, λ more e p. begun more e (subst (λ w. now (w ++ more) e) (sym none) p))
 
-pub joining_fault : (old now : BoardValue) (left all : List Body) (fault : Option WireFault) → Joining old now left all → left ≡ [] → JoinsFrames End old now all fault
-joining_fault old now left all fault begun is = sym (ap (joined old) (append-nil all)) ∙ begun [] ∙ ap (λ w. joined now (w ++ [])) is
+  pub joining_fault : (fault : Option WireFault) → now [] b → JoinsFrames (End Refused) old now b all fault
+  joining_fault fault here = subst (λ w. old w b) (append-nil all) (begun [] b (subst (λ w. now (w ++ []) b) (sym none) here))

@@ -5,3 +5,4 @@ pub mod BarLines
 pub mod Drawing
 pub mod Shown
 pub mod News
+pub mod Framed

@@ -1,5 +1,5 @@
 -- Boards without news: a board that is covered changes neither the join nor what is answered.
-use Rattle.std.proofs.Common.{◌≡◌, ℕ, List, [], ◌∷◌, ◌++◌, Bool, true, false, refl, sym, ap, subst, ◌∙◌, append-nil}
+use Rattle.std.proofs.Common.{◌≡◌, ℕ, List, [], ◌∷◌, ◌++◌, Bool, true, false, refl, sym, ap, ◌∙◌, append-nil}
 use Rattle.std.specs.Prelude.{◌||◌}
 use Rattle.std.specs.Str.{bytes_eq}
 use Rattle.std.proofs.lemmas.Slice.Eq.{bytes_eq-Decides}
@@ -9,7 +9,7 @@ use Rattle.squall_board.specs.BoardLaws.{board_laws, same_board, tells_both}
 use Rattle.squall_cli_lines.specs.Lines.{lines_of}
 use Rattle.squall_cli_command.specs.declared.form.Form.{Form}
 use Rattle.squall_cli_command.specs.declared.form.Form.TheVariants.{Lines, Json}
-use Rattle.squall_cli_watch.specs.Changed.{changed, text_of_lines, text_unless_same, change_in}
+use Rattle.squall_cli_watch.specs.Changed.{changed, text_of_lines, change_in}
 
 or_same : (a b : Bool) → (b ≡ true → a ≡ true) → (a || b) ≡ a
 or_same true b f = refl

@@ -11,39 +11,45 @@ use Rattle.squall_wire.specs.Messages.{Body, body_of}
 use Rattle.squall_wire.specs.Hearing.{IsHeard}
 use Rattle.squall_cli_device.specs.States.{SinkState, OutputFails}
 use Rattle.squall_cli_lines.specs.Script.{block_size}
+use Rattle.squall_cli_command.specs.declared.stream.WatchAsk.{WatchAsk}
 use Rattle.squall_cli_lines.specs.Heeding.{Says}
-use Rattle.squall_cli_lines.specs.declared.Flow.{Flow}
-use Rattle.squall_cli_lines.specs.declared.Flow.TheVariants.{On, End}
-use Rattle.squall_cli_lines.specs.declared.Ended.{Ended}
 use Rattle.squall_cli_lines.specs.declared.RunFault.{RunFault}
 use Rattle.squall_cli_lines.specs.declared.RunFault.TheVariants.{Read, Write, NoMemory}
 use Rattle.squall_cli_watch.specs.Bars.{redrawn, later_bars}
 use Rattle.squall_cli_watch.specs.BarLines.{LineValue, IsDrawn, Adds, Ends}
-use Rattle.squall_cli_watch.specs.Drawn.{joined, AreDrawn}
+use Rattle.squall_cli_watch.specs.declared.ending.WatchEnd.{WatchEnd}
+use Rattle.squall_cli_watch.specs.declared.ending.Next.{Next}
+use Rattle.squall_cli_watch.specs.declared.ending.Next.TheVariants.{On, End}
+use Rattle.squall_cli_watch.specs.declared.watcher.Watcher.{Watcher}
+use Rattle.squall_cli_watch.specs.Drawn.{AreJoined, AreDrawn}
 
 -- ---- boards
 
+-- the boards that frames to come make
+abbrev pub makes : Watcher → List Body → BoardValue → Type 0
+makes w bodies b = AreJoined w.how w.first w.board bodies b
+
 -- One frame was joined: what the frames after it make of the new board, this frame and those make of the old one; or it ends that.
-abbrev pub JoinsFrame : Flow → BoardValue → BoardValue → Body → Type 0
-JoinsFrame On b b' body = (bodies : List Body) → joined b (body ∷ bodies) ≡ joined b' bodies
-JoinsFrame End b b' body = (bodies : List Body) → joined b (body ∷ bodies) ≡ b'
+abbrev pub JoinsFrame : Next → (List Body → BoardValue → Type 0) → (List Body → BoardValue → Type 0) → BoardValue → Body → Type 0
+JoinsFrame On old new b body = (bodies : List Body) (b' : BoardValue) → new bodies b' → old (body ∷ bodies) b'
+JoinsFrame (End end) old new b body = (bodies : List Body) → old (body ∷ bodies) b
 
 -- the same of frames that such a fault follows
-abbrev pub JoinsFrames : Flow → BoardValue → BoardValue → List Body → Option WireFault → Type 0
-JoinsFrames On b b' bodies fault = (fault ≡ None) × ((more : List Body) → joined b (bodies ++ more) ≡ joined b' more)
-JoinsFrames End b b' bodies fault = joined b bodies ≡ b'
+abbrev pub JoinsFrames : Next → (List Body → BoardValue → Type 0) → (List Body → BoardValue → Type 0) → BoardValue → List Body → Option WireFault → Type 0
+JoinsFrames On old new b bodies fault = (fault ≡ None) × ((more : List Body) (b' : BoardValue) → new more b' → old (bodies ++ more) b')
+JoinsFrames (End end) old new b bodies fault = old bodies b
 
 -- the same of the frames that end in these bytes, of which the rest is left
-abbrev pub JoinsBytes : Flow → BoardValue → BoardValue → List ℕ → List ℕ → Type 0
-JoinsBytes flow b b' bytes left = (messages : List Message) × (fault : Option WireFault)
-    × IsHeard bytes messages fault left × JoinsFrames flow b b' (map body_of messages) fault
+abbrev pub JoinsBytes : Next → (List Body → BoardValue → Type 0) → (List Body → BoardValue → Type 0) → BoardValue → List ℕ → List ℕ → Type 0
+JoinsBytes next old new b bytes left = (messages : List Message) × (fault : Option WireFault)
+    × IsHeard bytes messages fault left × JoinsFrames next old new b (map body_of messages) fault
 
 -- the same by what was returned: after a failed allocation nothing is known
-abbrev pub JoinsPiece : Result Flow RunFault → BoardValue → BoardValue → List ℕ → List ℕ → Type 0
-JoinsPiece (Ok flow) b b' bytes left = JoinsBytes flow b b' bytes left
-JoinsPiece (Err Read) b b' bytes left = ⊥
-JoinsPiece (Err Write) b b' bytes left = (flow : Flow) × JoinsBytes flow b b' bytes left
-JoinsPiece (Err NoMemory) b b' bytes left = Unit {0}
+abbrev pub JoinsPiece : Result Next RunFault → (List Body → BoardValue → Type 0) → (List Body → BoardValue → Type 0) → BoardValue → List ℕ → List ℕ → Type 0
+JoinsPiece (Ok next) old new b bytes left = JoinsBytes next old new b bytes left
+JoinsPiece (Err Read) old new b bytes left = ⊥
+JoinsPiece (Err Write) old new b bytes left = (next : Next) × JoinsBytes next old new b bytes left
+JoinsPiece (Err NoMemory) old new b bytes left = Unit {0}
 
 -- ---- one bar
 
@@ -68,8 +74,8 @@ ShowsIfOn true IsBar line line' err err' = ShowsOne IsBar line line' err err'
 ShowsIfOn false IsBar line line' err err' = (line' ≡ line) × (err' ≡ err)
 
 -- the same by what was returned: after a failed allocation nothing was drawn
-abbrev pub ShowsPiece : Result Flow RunFault → (List ℕ → Type 0) → LineValue → LineValue → SinkState → SinkState → Type 0
-ShowsPiece (Ok flow) IsBar line line' err err' = ShowsIfOn line.on IsBar line line' err err'
+abbrev pub ShowsPiece : Result Next RunFault → (List ℕ → Type 0) → LineValue → LineValue → SinkState → SinkState → Type 0
+ShowsPiece (Ok next) IsBar line line' err err' = ShowsIfOn line.on IsBar line line' err err'
 ShowsPiece (Err Read) IsBar line line' err err' = ⊥
 ShowsPiece (Err Write) IsBar line line' err err' = ShowsIfOn line.on IsBar line line' err err'
 ShowsPiece (Err NoMemory) IsBar line line' err err' = (line' ≡ line) × (err' ≡ err)
@@ -82,16 +88,16 @@ IsStarted true IsBar line err err' = IsBar line.shown × IsDrawn line.on err err
 IsStarted false IsBar line err err' = (line.on ≡ false) × (err' ≡ err)
 
 -- what is drawn after a first bar that is shown, once the line is ended
-pub record DrawsAfter (first : Change) (b : BoardValue) (shown : List ℕ) (result : Result Ended RunFault) (before after : Option (List ℕ)) (err err' : SinkState) : Type 0 where
+pub record DrawsAfter (how : WatchAsk) (first : Change) (b : BoardValue) (shown : List ℕ) (result : Result WatchEnd RunFault) (before after : Option (List ℕ)) (err err' : SinkState) : Type 0 where
   pub blocks : List (List ℕ)
   pub rest : List ℕ
   pub bars : List (List ℕ)
   pub read : Consumes before after (concat blocks ++ rest)
   pub small : All (λ block. length block ≤ block_size) blocks
-  pub drawn : AreDrawn first b [] shown blocks bars
+  pub drawn : AreDrawn how first b [] shown blocks bars
   pub said : Says err err' (later_bars bars ++ codes "\n")
   pub whole : (rest ≡ []) ⊎ ((result ≡ Err NoMemory) ⊎ OutputFails err err')
 
 -- the same before the line is ended, if it is still drawn on
-abbrev pub DrawsOn : Change → BoardValue → List ℕ → Result Ended RunFault → Option (List ℕ) → Option (List ℕ) → SinkState → SinkState → Bool → Type 0
-DrawsOn first b shown result before after err err' on = (last : SinkState) → Ends on err' last → DrawsAfter first b shown result before after err last
+abbrev pub DrawsOn : WatchAsk → Change → BoardValue → List ℕ → Result WatchEnd RunFault → Option (List ℕ) → Option (List ℕ) → SinkState → SinkState → Bool → Type 0
+DrawsOn how first b shown result before after err err' on = (last : SinkState) → Ends on err' last → DrawsAfter how first b shown result before after err last

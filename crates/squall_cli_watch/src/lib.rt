@@ -7,6 +7,7 @@
 
 mod bar;
 mod changed;
+mod ending;
 mod frames;
 mod piece;
 mod refusal;
@@ -14,4 +15,5 @@ mod status;
 mod watcher;
 
 pub use bar::{Bar, bar_text};
+pub use ending::WatchEnd;
 pub use frames::watch;

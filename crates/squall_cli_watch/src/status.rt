@@ -1,16 +1,16 @@
 //! The status of the newest course.
 
-ghost use Rattle.std.specs.Prelude.{IfOk, string_bytes};
-ghost use Rattle.squall_board.specs.Boards.{says};
-ghost use Rattle.squall_board.specs.CourseRoute.{course_of_board};
-ghost use Rattle.squall_status.specs.Summary.{IsStatusOf};
-ghost use Rattle.squall_cli_watch.specs.Watched.{IsStatusText};
+ghost use Rattle.std.specs.Prelude.{◌≡◌, IfOk};
+ghost use Rattle.squall_cli_json.specs.Shares.{are_over};
+ghost use Rattle.squall_cli_watch.specs.Watched.{IsNewestStatus};
+ghost use Rattle.squall_cli_watch.specs.Taken.{next_with};
 
+use crate::ending::{Next, WatchEnd};
 use squall_board::Board;
-use squall_cli_boards::status_text;
-use squall_cli_command::Form;
+use squall_cli_command::WatchAsk;
+use squall_cli_json::complete_moves;
 use squall_course::Course;
-use squall_status::{CourseStatus, Shown};
+use squall_status::CourseStatus;
 use std::alloc::{AllocError, Global};
 
 /// How far the newest course has come of which the board tells, or else the first.
@@ -19,22 +19,28 @@ pub(crate) fn newest_status(
     first: &Course,
     board: &Board,
 ) -> Result<CourseStatus, AllocError>
-    ensures { IfOk result (λ status. IsStatusOf (course_of_board first.now board.now) (says board.now) status) }
+    ensures { IfOk result (λ status. IsNewestStatus first.now board.now status) }
 {
     let newest = board.newest_course(alloc, first)?;
     let course = newest.as_ref().unwrap_or(first);
     CourseStatus::of(alloc, course, board)
 }
 
-/// The same in the form.
-pub(crate) fn newest_text(
-    alloc: Global,
-    form: Form,
-    first: &Course,
-    board: &Board,
-) -> Result<String, AllocError>
-    ensures { IfOk result (λ text. IsStatusText form (course_of_board first.now board.now) board.now (string_bytes text)) }
+/// Whether each move of the course is complete.
+fn is_complete(status: &CourseStatus) -> bool
+    ensures { result ≡ are_over status.now.moves }
 {
-    let status = newest_status(alloc, first, board)?;
-    status_text(alloc, form, Shown::EachMove, &status)
+    let moves = status.moves();
+    complete_moves(moves) == moves.len()
+}
+
+/// What comes after a frame that is answered with the status.
+pub(crate) fn next_with(how: WatchAsk, status: &CourseStatus) -> Next
+    ensures { result ≡ next_with how status.now }
+{
+    if how.is_until_complete && is_complete(status) {
+        Next::End(WatchEnd::Complete)
+    } else {
+        Next::On
+    }
 }
