@@ -72,7 +72,8 @@ pub fn keys_of_standard_input()
 /// `watch` reads frames from standard input. Its files are the two plans. A flag is no file, and
 /// changes what is asked.
 pub fn frames_of_standard_input()
-    ensures lines { (name : Text) → Asks (name ∷ codes "watch" ∷ codes "o" ∷ codes "n" ∷ []) (stream (Frames (watch_asked Lines false)) (codes "o" ∷ codes "n" ∷ [])) }
+    ensures lines { (name : Text) → Asks (name ∷ codes "watch" ∷ codes "o" ∷ codes "n" ∷ [])
+        (stream (Frames (watch_asked Lines false)) (codes "o" ∷ codes "n" ∷ [])) }
     ensures json { (name : Text) → Asks (name ∷ codes "watch" ∷ codes "o" ∷ codes "--json" ∷ codes "n" ∷ [])
         (stream (Frames (watch_asked Json false)) (codes "o" ∷ codes "n" ∷ [])) }
     ensures until { (name : Text) → Asks (name ∷ codes "watch" ∷ codes "--until-complete" ∷ codes "o" ∷ codes "n" ∷ [])
