@@ -7,3 +7,4 @@ pub mod Streamed
 pub mod Watched
 pub mod Followed
 pub mod Answering
+pub mod Statuses

@@ -1,11 +1,14 @@
 -- The status of the program, and what is told with it on standard error (this project's command line).
-use Rattle.std.specs.Prelude.{◌≡◌, ◌≢◌, ◌⊎◌, ℕ, List, [], ◌∷◌, ◌++◌, Result, Ok, Err, codes}
+use Rattle.std.specs.Prelude.{◌≡◌, ◌≢◌, ◌⊎◌, ℕ, List, [], ◌∷◌, ◌++◌, Result, Ok, Err, codes, if◌then◌else◌}
 use Rattle.std.specs.Io.{StartsWith}
 use Rattle.squall_cli_lines.specs.Faults.{text_of_run_fault}
 use Rattle.squall_cli_lines.specs.declared.Ended.{Ended}
 use Rattle.squall_cli_lines.specs.declared.Ended.TheVariants.{Fine, Refused}
 use Rattle.squall_cli_lines.specs.declared.RunFault.{RunFault}
 use Rattle.squall_cli_lines.specs.declared.RunFault.TheVariants.{Read, Write, NoMemory}
+use Rattle.squall_cli_command.specs.declared.stream.WatchAsk.{WatchAsk}
+use Rattle.squall_cli_watch.specs.declared.ending.WatchEnd.{WatchEnd}
+use Rattle.squall_cli_watch.specs.declared.ending.WatchEnd.TheVariants as watch
 
 -- ---- statuses
 
@@ -16,6 +19,17 @@ status_of (Ok Refused) = 1
 status_of (Err Read) = 3
 status_of (Err Write) = 3
 status_of (Err NoMemory) = 4
+
+-- the status of a watch that has answered all of its input: 5 if it was to end once the course is complete, and 0 otherwise
+abbrev pub status_at_end : WatchAsk → ℕ
+status_at_end how = if how.is_until_complete then 5 else 0
+
+-- the status of a watch by how it ended
+abbrev pub status_of_watch : WatchAsk → Result WatchEnd RunFault → ℕ
+status_of_watch how (Ok watch.Fine) = status_at_end how
+status_of_watch how (Ok watch.Refused) = 1
+status_of_watch how (Ok watch.Complete) = 0
+status_of_watch how (Err fault) = status_of (Err fault)
 
 -- the status of a fault that comes before anything is written
 abbrev pub IsUnread : ℕ → Type 0

@@ -2,11 +2,13 @@
 
 ghost use Rattle.std.specs.Prelude.{◌≡◌, ◌++◌, ℕ, List, Err, codes};
 ghost use Rattle.squall_cli_lines.specs.Heeding.{Says};
-ghost use Rattle.squall_cli_ask.specs.Told.{status_of};
-ghost use Rattle.squall_cli_ask.specs.Told.{fault_told, outcome_told, unopened_told, unread_told, IsTold};
+ghost use Rattle.squall_cli_ask.specs.Told.{status_of, status_at_end, status_of_watch};
+ghost use Rattle.squall_cli_ask.specs.Told.{fault_told, outcome_told, unopened_told, unread_told, IsNoName, IsTold};
 
+use squall_cli_command::WatchAsk;
 use squall_cli_device::Sink;
 use squall_cli_lines::{Ended, RunFault, send_text};
+use squall_cli_watch::WatchEnd;
 
 /// The status of a task that was done.
 pub(crate) const FINE: u8 = 0;
@@ -115,6 +117,34 @@ pub fn tell_outcome<E: Sink>(outcome: Result<Ended, RunFault>, err: &mut E) -> u
     match outcome {
         Ok(Ended::Fine) => FINE,
         Ok(Ended::Refused) => REFUSED,
+        Err(fault) => tell_fault(fault, err),
+    }
+}
+
+/// The status of a watch that has answered all of its input.
+fn status_at_end(how: WatchAsk) -> u8
+    ensures { result ≡ status_at_end how }
+{
+    if how.is_until_complete {
+        INCOMPLETE
+    } else {
+        FINE
+    }
+}
+
+/// The status of a watch. Says what stopped it, if something did.
+pub(crate) fn tell_watch<E: Sink>(
+    how: WatchAsk,
+    outcome: Result<WatchEnd, RunFault>,
+    err: &mut E,
+) -> u8
+    ensures status { result ≡ status_of_watch how outcome }
+    ensures told { (text : List ℕ) × IsTold IsNoName result text × Says (E.state err.old) (E.state err.new) text }
+{
+    match outcome {
+        Ok(WatchEnd::Fine) => status_at_end(how),
+        Ok(WatchEnd::Refused) => REFUSED,
+        Ok(WatchEnd::Complete) => FINE,
         Err(fault) => tell_fault(fault, err),
     }
 }

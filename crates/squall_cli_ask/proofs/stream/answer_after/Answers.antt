@@ -6,36 +6,36 @@ use Rattle.std.specs.List.{list_any}
 use Rattle.squall_cli_lines.specs.Heeding.{Says}
 use Rattle.squall_cli_ask.specs.Files.{is_input}
 use Rattle.squall_cli_ask.specs.Reads.{bytes_at}
-use Rattle.squall_cli_ask.specs.Told.{IsTold, outcome_told}
+use Rattle.squall_cli_ask.specs.Told.{IsNoName, IsTold}
 use Rattle.squall_cli_ask.specs.Gathered.{AreRead}
 use Rattle.squall_cli_ask.specs.Followed.{files_followed, IsPromptTo, IsDrawnFor}
 use Rattle.squall_cli_ask.proofs.Followed.{unread_undrawn}
+use Rattle.squall_cli_ask.proofs.Telling.{told_of}
 use Rattle.squall_cli_ask.proofs.stream.answer_after.Goals as goal
 
 pub returns-in-Ok-clause-told : goal.returns-in-Ok-clause-told
 returns-in-Ok-clause-told g c =
     let read = c.in-Ok.ensures in
-    let answered = c.answer_input-outcome.ensures in
-    let outcome = c.answer_input-outcome.result in
+    let t = c.answer_input.ensures.told in
+    let status = c.answer_input.result in
     let stream = c.args.follow.now.stream in
     let known = g.F.Files.known c.args.files.now in
     let input = (g.S.Source.state c.args.input.now).remaining in
-    let after = (g.S.Source.state c.answer_input-outcome.new.input).remaining in
-    let drawn = g.E.Sink.state c.answer_input-outcome.new.err in
+    let after = (g.S.Source.state c.answer_input.new.input).remaining in
     let other : list_any is_input (map string_bytes c.deref.result.now) ≡ false =
     subst (λ w. list_any is_input (map string_bytes w) ≡ false) (sym c.deref.ensures.value) c.requires in
     let kept = read.kept other in
     let quiet = read.quiet refl in
     let are_read = subst (λ w. AreRead known input input (map string_bytes w) c.in-Ok.read.items) c.deref.ensures.value
     (subst (λ d. AreRead known input (g.S.Source.state d).remaining (map string_bytes c.deref.result.now) c.in-Ok.read.items) kept read.read) in
-    let bars = subst (λ w. IsDrawnFor stream (g.E.Sink.terminal c.args.err.now) outcome w input after (g.E.Sink.state c.args.err.now) drawn) c.deref-in-Ok.ensures.value
-    (subst (λ e. IsDrawnFor stream (g.E.Sink.terminal e) outcome c.deref-in-Ok.result.now input after (g.E.Sink.state e) drawn) quiet
-    (subst (λ d. IsDrawnFor stream (g.E.Sink.terminal c.read_files.new.err) outcome c.deref-in-Ok.result.now (g.S.Source.state d).remaining after (g.E.Sink.state c.read_files.new.err) drawn) kept answered.bars)) in (
-      drawn,
-      inl (outcome, c.in-Ok.read.items, c.tell_outcome.ensures.status, are_read, bars),
-      outcome_told outcome,
-      inl (outcome, c.tell_outcome.ensures.status, refl),
-      c.tell_outcome.ensures.told,
+    let bars = subst (λ w. IsDrawnFor stream (g.E.Sink.terminal c.args.err.now) status w input after (g.E.Sink.state c.args.err.now) t.0) c.deref-in-Ok.ensures.value
+    (subst (λ e. IsDrawnFor stream (g.E.Sink.terminal e) status c.deref-in-Ok.result.now input after (g.E.Sink.state e) t.0) quiet
+    (subst (λ d. IsDrawnFor stream (g.E.Sink.terminal c.read_files.new.err) status c.deref-in-Ok.result.now (g.S.Source.state d).remaining after (g.E.Sink.state c.read_files.new.err) t.0) kept t.1)) in (
+      t.0,
+      inl (c.in-Ok.read.items, are_read, bars),
+      t.2,
+      told_of IsNoName (Contains (files_followed c.args.follow.now)) status t.2 (λ name none. absurd none) t.3,
+      t.4,
     )
 
 pub returns-in-Err-clause-done : goal.returns-in-Err-clause-done
@@ -44,11 +44,11 @@ returns-in-Err-clause-done g c = inr (c.in-Err.ensures.fault, Appends-nil (g.O.S
 pub returns-in-Ok-clause-prompt : goal.returns-in-Ok-clause-prompt
 returns-in-Ok-clause-prompt g c =
     let read = c.in-Ok.ensures in
-    let t = c.answer_input-outcome.ensures.prompt in
+    let t = c.answer_input.ensures.prompt in
     let stream = c.args.follow.now.stream in
     let known = g.F.Files.known c.args.files.now in
     let input = (g.S.Source.state c.args.input.now).remaining in
-    let after = (g.S.Source.state c.answer_input-outcome.new.input).remaining in
+    let after = (g.S.Source.state c.answer_input.new.input).remaining in
     let other : list_any is_input (map string_bytes c.deref.result.now) ≡ false =
     subst (λ w. list_any is_input (map string_bytes w) ≡ false) (sym c.deref.ensures.value) c.requires in
     let kept = read.kept other in
