@@ -40,7 +40,11 @@ def runs(values):
 
 def spans_of(places):
     """A set of places as spans that don't touch."""
-    return [(lo, hi) for lo, hi, within in runs(place in places for place in range(PLACES)) if within]
+    found = []
+    for it in sorted(places):
+        lo = found.pop()[0] if found and found[-1][1] == it else it
+        found.append((lo, it + 1))
+    return found
 
 
 class Course:
@@ -56,10 +60,10 @@ class Course:
         return self.old[place] != self.new[place]
 
     def incoming(self, sub, part):
-        return {it for it in range(PLACES) if self.sub[it] == sub and self.new[it] == part}
+        return {it for it, of in enumerate(self.sub) if of == sub and self.new[it] == part}
 
     def outgoing(self, sub, part):
-        return {it for it in range(PLACES) if self.sub[it] == sub and self.old[it] == part}
+        return {it for it, of in enumerate(self.sub) if of == sub and self.old[it] == part}
 
     def lines(self):
         """What `squall course` writes."""
