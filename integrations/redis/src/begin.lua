@@ -154,6 +154,7 @@ local function begin(args)
   redis.call('DEL', 'squall:moves', 'squall:edge', 'squall:forgot', 'squall:gone', 'squall:put', 'squall:back',
     'squall:pulled', 'squall:closed')
   redis.call('UNLINK', 'squall:arrived')
+  write_down('begin', args[1], args[2], 'to', args[3])
   redis.call('MSET', 'squall:number', args[1], 'squall:old', args[2], 'squall:new', args[3])
   for at = 5, #args do
     redis.call('RPUSH', 'squall:moves', args[at])
@@ -192,6 +193,7 @@ redis.register_function({
       return refuse('COURSE ' .. course.number)
     elseif not course.is_closed then
       redis.call('SET', 'squall:closed', args[1])
+      write_down('close', args[1])
       course.is_closed = true
       grow()
     end

@@ -168,6 +168,7 @@ redis.register_function({
     elseif args[3] < move.forgot or args[6] ~= redis.call('GET', 'squall:generation') then
       return refuse('CHANGED')
     end
+    write_down('take', args[1], args[3], move.edge, move.peer)
     redis.call('HSET', 'squall:edge', move.lo, args[3])
     move.edge = args[3]
     return step(args, move, 'edge', 'squall:edge', true)

@@ -29,6 +29,10 @@
 -- squall:run         the run of the server in which it let routers in last
 -- squall:losses      how often it was let in with less (times), and about how many rows were lost (rows)
 --
+-- If a mover has asked for it:
+--
+-- squall:log         a list of what was done here, one text for each step. Nothing here reads it
+--
 -- Functions that need no memory also run if the server has none left.
 --
 -- Nothing but these functions changes these keys. So what was read of the course is kept from call to call.
@@ -70,6 +74,26 @@ end
 local function refuse(text)
   return redis.error_reply('SQUALL ' .. text)
 end
+
+-- Writes down what is done, in the same step, if there is a list for it.
+local function write_down(...)
+  redis.call('RPUSHX', 'squall:log', table.concat({ ... }, ' '))
+end
+
+-- PART TEXT..: from now on this partition, of that number, writes down what it does. The texts are what a mover does for it.
+redis.register_function({
+  function_name = 'squall_deeds',
+  flags = { 'allow-oom' },
+  callback = function(_, args)
+    if redis.call('EXISTS', 'squall:log') == 0 then
+      redis.call('RPUSH', 'squall:log', 'part ' .. args[1])
+    end
+    for at = 2, #args do
+      write_down(args[at])
+    end
+    return redis.status_reply('OK')
+  end,
+})
 
 -- Raises the generation, at least to one above LEAST: what it is now.
 local function grow(least)
@@ -280,6 +304,8 @@ local function raise(move, name, key, edge)
   if edge <= move[name] then
     return false
   end
+  local deed = name == 'forgot' and 'forget' or move.role == 'out' and 'give' or 'load'
+  write_down(deed, known().number, move[name], edge, move.peer)
   redis.call('HSET', key, move.lo, edge)
   move[name] = edge
   if name == 'forgot' or move.role == 'in' then

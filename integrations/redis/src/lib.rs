@@ -10,6 +10,7 @@ pub mod check;
 pub mod config;
 pub mod conn;
 pub mod course;
+pub mod diary;
 pub mod dice;
 pub mod fault;
 pub mod faults;

@@ -15,6 +15,7 @@ local function note(move, rank, state)
     redis.call('HDEL', 'squall:pulled', rank)
   end
   known().pulled[rank] = state
+  write_down('pulled', known().number, rank, move.peer, string.match(state or 'taken', '^%a+'))
   redis.call('HSET', 'squall:edge', move.lo, move.edge)
 end
 

@@ -7,10 +7,12 @@ use super::peers::Peers;
 use super::reach::{Reach, Side};
 use crate::args::Args;
 use crate::course::{Plan, Progress};
+use crate::diary::Diary;
 use crate::dice::Dice;
 use crate::fault::Done;
 use crate::faults;
 use crate::log;
+use crate::secret::digits;
 use squall::{Course, Error, Router, View};
 use std::sync::atomic::{AtomicBool, AtomicU64, Ordering::Relaxed, Ordering::SeqCst};
 use std::sync::{Arc, Mutex, MutexGuard, PoisonError};
@@ -35,6 +37,8 @@ pub struct Options {
     pub plan: Vec<u8>,
     /// Frames that it knows from before.
     pub known: Vec<Vec<u8>>,
+    /// Where it writes down what it hears.
+    pub diary: Diary,
 }
 
 impl Options {
@@ -42,7 +46,8 @@ impl Options {
     pub fn of(args: &Args, kind: &'static str) -> Done<Options> {
         // A mover waits for all to know what it has said.
         let carrier = Carrier::of(args, kind == "mover")?;
-        Ok(Options { carrier, kind, plan: Plan::of(args, "first")?.text, known: Vec::new() })
+        let diary = Diary::of(args, "router")?;
+        Ok(Options { carrier, kind, plan: Plan::of(args, "first")?.text, known: Vec::new(), diary })
     }
 }
 
@@ -80,6 +85,7 @@ pub struct Node {
     /// When the node joined, or the bus has said anything last.
     heard: Mutex<Instant>,
     has_heard: AtomicBool,
+    diary: Diary,
     /// What it has counted.
     pub counts: Counts,
 }
@@ -112,6 +118,7 @@ impl Node {
             peers: Mutex::new(Peers::new(Instant::now())),
             heard: Mutex::new(Instant::now()),
             has_heard: AtomicBool::new(false),
+            diary: options.diary,
             counts: Counts::default(),
         });
         node.run(Side::Hear, Node::hear);
@@ -216,6 +223,7 @@ impl Node {
         let mut router = lock(&self.router);
         let before: Vec<Vec<u8>> = router.digest()?.collect();
         frames.iter().try_for_each(|frame| router.hear(frame))?;
+        frames.iter().for_each(|frame| self.write_down(frame));
         let is_news = !router.digest()?.eq(before);
         if is_news {
             self.publish(&router)?;
@@ -286,12 +294,20 @@ impl Node {
         let mut router = lock(&self.router);
         for entry in frames {
             match router.hear(&entry.frame) {
-                Ok(()) => self.counts.taken.fetch_add(1, Relaxed),
+                Ok(()) => {
+                    self.write_down(&entry.frame);
+                    self.counts.taken.fetch_add(1, Relaxed)
+                }
                 Err(Error::Frame(_)) => self.counts.refused.fetch_add(1, Relaxed),
                 Err(error) => return Err(error.into()),
             };
         }
         self.publish(&router)
+    }
+
+    /// Writes down a frame that was taken.
+    fn write_down(&self, frame: &[u8]) {
+        self.diary.try_write(|| format!("heard {}", digits(frame)));
     }
 
     /// Plans the answers to digests, and drops those that others gave.

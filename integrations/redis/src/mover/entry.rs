@@ -26,6 +26,7 @@ impl Mover {
     pub(super) fn enter(&self) -> Done<Entered> {
         let mut partitions = self.partitions()?;
         partitions.iter_mut().try_for_each(|it| it.prepare().and_then(|()| it.refuse_eviction()))?;
+        self.keep_deeds(&mut partitions)?;
         let survey = Survey::of(partitions.iter_mut())?;
         let number = |part| survey.facts[&part].number;
         if let Some(later) = partitions.iter().find(|it| number(it.part) > self.number) {

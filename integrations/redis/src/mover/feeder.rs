@@ -159,7 +159,7 @@ impl Job<'_> {
 
     /// Connects to a partition. If it was restarted since the mover looked at it, it may have less now: then the mover
     /// begins again, and looks at it.
-    fn open(&self, part: u32) -> Done<Partition> {
+    pub(super) fn open(&self, part: u32) -> Done<Partition> {
         let mut partition = Partition::open(part, self.server(part)?, self.number)?;
         let runs = self.runs.lock().unwrap_or_else(PoisonError::into_inner);
         let is_known = runs.get(&part) == Some(&partition.life.run);

@@ -1,6 +1,7 @@
 //! The mover: begins a course at each partition, moves its keys chunk by chunk, and reports them.
 
 mod ahead;
+mod deeds;
 mod disk;
 mod dumps;
 mod entry;
@@ -28,6 +29,7 @@ use crate::args::{self, Args, Usage};
 use crate::bus::{Node, Options};
 use crate::conn::{Conn, Server};
 use crate::course::{self, Move, Plan};
+use crate::diary::{self, Diary};
 use crate::fault::{say, Done, Fault, Trying};
 use crate::log;
 use crate::{faults, keep_alive, keymap, metrics, stop, tls};
@@ -74,6 +76,7 @@ pub const USAGE: Usage = Usage {
         log::OPTION,
         metrics::OPTION,
         keep_alive::OPTION,
+        diary::OPTION,
         tls::OPTIONS[0],
         tls::OPTIONS[1],
         tls::OPTIONS[2],
@@ -98,6 +101,8 @@ struct Mover {
     accepted: BTreeSet<u32>,
     /// The partitions that begin from where the keys are: those of the course before, if that is turned back.
     left: BTreeSet<u32>,
+    /// What it does as the leader is written there.
+    diary: Arc<Diary>,
 }
 
 /// Runs the program.
@@ -141,6 +146,7 @@ impl Mover {
         let accepted = accepted(args, &servers)?;
         let (moves, issue) = course::issue(number, &old, &new)?;
         let with = |server| Server { password: password.clone(), ..server };
+        let diary = if args.has("dry-run") { Diary::default() } else { Diary::of(args, "leader")? };
         Ok(Mover {
             number,
             old,
@@ -151,6 +157,7 @@ impl Mover {
             secret: args.secret()?,
             accepted,
             left: BTreeSet::new(),
+            diary: Arc::new(diary),
         })
     }
 
@@ -215,6 +222,7 @@ impl Mover {
     /// Begins the course everywhere, lets its routers in, and shuts out all others.
     fn start(&self, job: &Job) -> Done<Entered> {
         let mut entered = self.enter()?;
+        self.note_begin()?;
         let runs = entered.partitions.iter().map(|it| (it.part, it.life.run.clone())).collect();
         *job.runs.lock().unwrap_or_else(PoisonError::into_inner) = runs;
         self.stop_at("begun");
@@ -269,12 +277,17 @@ impl Mover {
     /// The sub-plans, one after another.
     fn sub_plans(&self, job: &Job) -> Done<()> {
         let subs: BTreeSet<u32> = self.moves.iter().map(|it| it.sub).collect();
+        if faults::is_on("open-early") {
+            subs.iter().try_for_each(|sub| self.note_open(job, *sub))?;
+        }
         for sub in subs {
+            self.note_open(job, sub)?;
             job.bus.tell(|router| router.opened(self.number, sub))?;
             let moves: Vec<Move> = self.moves.iter().copied().filter(|it| it.sub == sub).collect();
             sources(job, &moves)?;
             job.stuck.check(self.number)?;
             for dest in moves.iter().map(|it| it.dest).collect::<BTreeSet<_>>() {
+                self.note_done(job, sub, dest)?;
                 job.bus.tell(|router| router.done(self.number, sub, dest))?;
             }
         }

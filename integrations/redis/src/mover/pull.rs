@@ -71,6 +71,7 @@ impl Mover {
         job.bus.tell_frames(std::slice::from_ref(&self.issue))?;
         let mut pairs: BTreeMap<(u32, u32), Vec<(Move, Rank)>> = BTreeMap::new();
         for (&rank, it) in ranks {
+            self.note_open(job, it.sub)?;
             job.bus.tell(|router| router.opened(self.number, it.sub))?;
             pairs.entry((it.source, it.dest)).or_default().push((*it, rank));
         }

@@ -258,6 +258,7 @@ impl Mover {
             secret: self.secret.clone(),
             accepted: self.accepted.clone(),
             left: &self.old.parts | &self.new.parts,
+            diary: self.diary.clone(),
         })
     }
 
@@ -297,7 +298,8 @@ mod tests {
         let (moves, issue) = course::issue(2, &old, &new).unwrap();
         let (servers, secret) = (BTreeMap::new(), String::new());
         let (accepted, left) = (BTreeSet::new(), BTreeSet::new());
-        Mover { number: 2, old, new, moves, issue, servers, secret, accepted, left }
+        let diary = Default::default();
+        Mover { number: 2, old, new, moves, issue, servers, secret, accepted, left, diary }
     }
 
     fn stand(role: Role, (edge, forgot): (u32, u32), pulled: &[(u32, Pulled)]) -> Stand {

@@ -82,6 +82,7 @@ pub const USAGE: Usage = Usage {
         "client-users",
         "memory",
         keep_alive::OPTION,
+        crate::diary::OPTION,
         args::CONFIG,
         log::OPTION,
         crate::metrics::OPTION,

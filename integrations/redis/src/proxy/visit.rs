@@ -14,7 +14,7 @@ use crate::mover::is_own;
 use crate::resp::{push, Value};
 
 /// The partition's own keys, which are no client's.
-const OWN: [&str; 20] = [
+const OWN: [&str; 21] = [
     "squall:number",
     "squall:old",
     "squall:new",
@@ -35,6 +35,7 @@ const OWN: [&str; 20] = [
     "squall:run",
     "squall:losses",
     "squall:mark",
+    "squall:log",
 ];
 /// How many keys a partition draws at once: some of them are its own.
 const DRAWS: usize = 32;
