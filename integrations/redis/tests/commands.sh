@@ -55,15 +55,61 @@ test_names_while_keys_move() {
   cut -d' ' -f2 "$run/sets" | sort > "$run/wanted"
   for number in 2 3 4; do
     start_move "$number" "${plans[number % 2]}" "${plans[1 - number % 2]}" --chunk 10 --pause 4
-    until has_ended "$id"; do
-      redis-cli -p "${proxies[looks % 2]}" keys '*:s' | sort > "$run/found" && cmp "$run/found" "$run/wanted" || return
-      redis-cli -p "${proxies[looks % 2]}" randomkey | grep -qxFf "$run/wanted" || return
+    while :; do
+      has_all_names "${proxies[looks % 2]}" || { show_names; return 1; }
       looks=$((looks + 1))
+      ! has_ended "$id" || break
     done
-    wait "$id" || return
+    wait "$id" || { cat "$run/mover"; return 1; }
   done
-  echo "$looks looks"
-  [ "$looks" -gt 3 ] && redis-cli -p "${proxies[0]}" dbsize | grep -qx 2000 && has_summed_up 2000
+  counts="($looks looks)"
+  await has_size 2000 && await has_summed_up 2000 || { show_names; return 1; }
+}
+
+# Whether a proxy names each key once, and draws one of them.
+has_all_names() {
+  redis-cli -p "$1" keys '*:s' | sort > "$run/found"
+  diff "$run/wanted" "$run/found" > "$run/other" || { head -n 20 "$run/other"; return 1; }
+  redis-cli -p "$1" randomkey > "$run/drawn"
+  grep -qxFf "$run/wanted" "$run/drawn" || { echo "drawn: $(< "$run/drawn")"; return 1; }
+}
+
+# Whether a proxy says that there are so many keys.
+has_size() {
+  redis-cli -p "${proxies[0]}" dbsize > "$run/size"
+  grep -qx "$1" "$run/size"
+}
+
+# Shows how many keys each proxy and each server has, and which keys are nowhere, or there twice or as nobody's.
+show_names() {
+  local at
+  for at in "${proxies[@]}"; do echo "proxy $at: dbsize $(redis-cli -p "$at" dbsize), $(redis-cli -p "$at" squall route 400:0)"; done
+  for at in "${servers[@]}"; do
+    redis-cli -p "$at" --scan | sort > "$run/names.$at"
+    echo "server $at: dbsize $(redis-cli -p "$at" dbsize), of its own" $(grep '^squall:' "$run/names.$at")
+    redis-cli -p "$at" hgetall squall:edge | paste - -
+    redis-cli -p "$at" hgetall squall:forgot | paste - -
+  done
+  cat "$run"/names.* | grep -v '^squall:' | sort > "$run/names"
+  echo "nowhere:" $(comm -13 "$run/names" "$run/wanted" | head -n 20)
+  echo "too many:" $(comm -23 "$run/names" "$run/wanted" | head -n 20)
+  tail -n 3 "$run"/proxy.* "$run/mover"
+}
+
+# A proxy that hears of a course just now answers about all keys, as before and after.
+test_all_keys_as_a_course_begins() {
+  local number id asked=0 words
+  deploy && fill_roots && run_proxy 0 env SQUALL_WAIT=course-heard || return
+  start_move 2 old new --chunk 1 --pause 600000
+  until redis-cli -p "$port" squall route 400:0 | grep -q "course 2$"; do
+    for words in dbsize randomkey "keys 400:0" "scan 0"; do
+      # shellcheck disable=SC2086
+      redis-cli -p "$port" $words > "$run/said"
+      ! grep "a course has just begun" "$run/said" || { echo "to $words, after $asked others"; return 1; }
+      asked=$((asked + 1))
+    done
+  done
+  counts="($asked were asked)"
 }
 
 # Whether INFO names so many keys, and as much memory as the partitions have, or a little less.

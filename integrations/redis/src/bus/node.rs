@@ -246,6 +246,9 @@ impl Node {
 
     fn publish(&self, router: &Router) -> Done<()> {
         let view = router.view()?;
+        if view.number() != self.number() {
+            faults::stop_at("course-heard");
+        }
         *lock(&self.view) = view;
         self.views.fetch_add(1, SeqCst);
         lock(&self.wakers).iter().for_each(|waker| waker());

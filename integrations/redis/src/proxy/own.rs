@@ -273,6 +273,10 @@ impl Worker {
         let (course, progress) = self.shared.node.course().ok()?;
         let number = course.number();
         if number != self.view.number() {
+            // The node has heard of it since the worker has looked.
+            self.refresh();
+        }
+        if number != self.view.number() {
             return None;
         }
         let is_heard = progress.loaded == progress.moving;
@@ -287,10 +291,10 @@ impl Worker {
 
     /// Asks all destinations how far they are that have not said that they have loaded all.
     pub(super) fn confirm_loads(&mut self, is_resp3: bool) {
-        let number = self.view.number();
         let Some(ground) = self.ground().filter(|ground| !ground.is_quiet) else {
             return;
         };
+        let number = self.view.number();
         for &dest in &ground.dests {
             if !self.shared.tables.has_loaded(dest, number) {
                 self.confirm(dest, is_resp3);

@@ -199,7 +199,7 @@ impl Worker {
 
     /// Takes the newest view. Connections then log in anew if its course is another one, and all that
     /// waits goes on.
-    fn refresh(&mut self) {
+    pub(super) fn refresh(&mut self) {
         if self.shared.node.views() == self.views {
             return;
         }
