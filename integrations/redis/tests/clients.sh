@@ -72,8 +72,10 @@ test_page_of_one_moment() {
   http=$port
   limits=(--metrics "127.0.0.1:$http" --program "$program")
   run_proxy 0 env || return
-  start_move 2 old new --chunk 1 --pause 5
-  until has_ended "$id"; do
+  # It goes on for long enough on a busy machine, too.
+  start_move 2 old new --chunk 1 --pause 100
+  until [ "$loads" -gt 5 ]; do
+    ! has_ended "$id" || { echo "the mover has ended after $looks looks at $loads boards"; return 1; }
     page '' || return
     drawn=$(sed -n "s/^<text [^>]*y='20'[^>]*>course .* loaded \([0-9]* of [0-9]*\) keys.*/\1/p" "$run/page")
     said=$(sed -n 's/^<pre>course .* loaded \([0-9]* of [0-9]*\) keys.*/\1/p' "$run/page")
@@ -83,7 +85,6 @@ test_page_of_one_moment() {
     last=$said
   done
   counts="($looks looks at $loads boards)"
-  [ "$loads" -gt 5 ]
 }
 
 # Whether the programs at these ports export together all that the files of monitoring/ name.
