@@ -44,17 +44,21 @@ func BenchmarkRoute(b *testing.B) {
 	}
 }
 
-func BenchmarkRoutes(b *testing.B) {
-	view := viewOf(b, large(b))
+// batches runs a call on batches of keys of several sizes, with as many places for answers.
+func batches[Answer any](b *testing.B, call func(keys []squall.Rank, answers []Answer) int) {
 	for _, count := range []int{1, 16, 1000} {
 		b.Run(fmt.Sprint(count), func(b *testing.B) {
-			keys, parts := keys(count), make([]squall.Part, count)
+			keys, answers := keys(count), make([]Answer, count)
 			b.ReportAllocs()
 			for i := 0; i < b.N; i++ {
-				view.Routes(keys, parts)
+				call(keys, answers)
 			}
 		})
 	}
+}
+
+func BenchmarkRoutes(b *testing.B) {
+	batches(b, viewOf(b, large(b)).Routes)
 }
 
 func BenchmarkPlace(b *testing.B) {
@@ -67,16 +71,7 @@ func BenchmarkPlace(b *testing.B) {
 }
 
 func BenchmarkLocate(b *testing.B) {
-	view := viewOf(b, large(b))
-	for _, count := range []int{1, 16, 1000} {
-		b.Run(fmt.Sprint(count), func(b *testing.B) {
-			keys, places := keys(count), make([]squall.Place, count)
-			b.ReportAllocs()
-			for i := 0; i < b.N; i++ {
-				view.Locate(keys, places)
-			}
-		})
-	}
+	batches(b, viewOf(b, large(b)).Locate)
 }
 
 // eight runs routes in eight goroutines at once.

@@ -3,18 +3,13 @@ package squall
 // #include "library.h"
 import "C"
 
-import (
-	"runtime"
-	"sync"
-	"unsafe"
-)
+import "unsafe"
 
 // Course is a numbered change from an old plan to a new one. It says which keys move, from which
 // partition to which, and in which sub-plan. Sub-plans are worked off one after the other, from 0. In
 // each of them a partition gives keys to at most one other. A course never changes.
 type Course struct {
-	mu sync.Mutex
-	at *C.squall_course // nil once it is closed
+	held handle[C.squall_course]
 }
 
 // Move says that the keys from Lo on, below Hi, move from the partition Source to the partition Dest in
@@ -47,87 +42,54 @@ func OpenCourse(number uint32, oldPlan, newPlan []byte) (*Course, error) {
 //
 // Errors: [ErrNoMemory]; [ErrClosed].
 func (r *Router) Course() (*Course, error) {
-	course, err := (*Course)(nil), error(ErrClosed)
-	r.use(func(at *C.squall_router) {
-		course, err = newCourse(func(room *C.squall_course) { C.squall_course_newest(at, room) })
+	return with(r.handle(), func(at *C.squall_router) (*Course, error) {
+		return newCourse(func(room *C.squall_course) { C.squall_course_newest(at, room) })
 	})
-	return course, err
 }
 
 // FirstCourse opens the course with which the router was opened. Errors are as those of [Router.Course].
 func (r *Router) FirstCourse() (*Course, error) {
-	course, err := (*Course)(nil), error(ErrClosed)
-	r.use(func(at *C.squall_router) {
-		course, err = newCourse(func(room *C.squall_course) { C.squall_course_first(at, room) })
+	return with(r.handle(), func(at *C.squall_router) (*Course, error) {
+		return newCourse(func(room *C.squall_course) { C.squall_course_first(at, room) })
 	})
-	return course, err
 }
 
 // newCourse is the course that a call opens in the room that it is given.
 func newCourse(open func(room *C.squall_course)) (*Course, error) {
-	room := (*C.squall_course)(C.calloc(1, C.squall_course_size()))
-	if room == nil {
-		return nil, ErrNoMemory
-	}
-	open(room)
-	course := &Course{at: room}
-	runtime.SetFinalizer(course, (*Course).Close)
-	status, place := C.squall_course_status(room), C.squall_course_fault_at(room)
-	if err := errorOf(uint32(status), uint64(place)); err != nil {
-		course.Close()
-		return nil, err
-	}
-	return course, nil
+	return openFor(new(Course), &courses, open)
 }
 
 // Close closes the course. Routers and other courses that share its plans keep them. It always returns nil.
 func (c *Course) Close() error {
-	if c == nil {
-		return nil
-	}
-	c.mu.Lock()
-	defer c.mu.Unlock()
-	if c.at != nil {
-		C.squall_course_close(c.at)
-		C.free(unsafe.Pointer(c.at))
-		c.at = nil
-		runtime.SetFinalizer(c, nil)
-	}
+	c.handle().close(c, func() {})
 	return nil
 }
 
-// use makes calls with the course, which nobody else uses meanwhile, and says whether it is open.
-func (c *Course) use(calls func(at *C.squall_course)) bool {
+func (c *Course) handle() *handle[C.squall_course] {
 	if c == nil {
-		return false
+		return nil
 	}
-	c.mu.Lock()
-	defer c.mu.Unlock()
-	if c.at == nil {
-		return false
-	}
-	calls(c.at)
-	return true
+	return &c.held
 }
 
 // Number is the number of the course, from 1 on. It is 0 if the course is closed.
 func (c *Course) Number() uint32 {
 	var number uint32
-	c.use(func(at *C.squall_course) { number = uint32(C.squall_course_number(at)) })
+	c.handle().use(func(at *C.squall_course) { number = uint32(C.squall_course_number(at)) })
 	return number
 }
 
 // Subplans is how many sub-plans the course has. It is 0 if nothing moves, or if the course is closed.
 func (c *Course) Subplans() uint32 {
 	var count uint32
-	c.use(func(at *C.squall_course) { count = uint32(C.squall_course_subplans(at)) })
+	c.handle().use(func(at *C.squall_course) { count = uint32(C.squall_course_subplans(at)) })
 	return count
 }
 
 // Moves are the moves of all sub-plans by rising key. Each key that moves lies in exactly one, and no other
 // key in any. There are none if the course is closed.
 func (c *Course) Moves() []Move {
-	return allOf(c, moveOf, func(at *C.squall_course, from C.size_t, out *C.squall_move) C.size_t {
+	return allOf(c.handle(), moveOf, func(at *C.squall_course, from C.size_t, out *C.squall_move) C.size_t {
 		return C.squall_course_moves(at, from, out, atOnce)
 	})
 }
@@ -136,14 +98,14 @@ func (c *Course) Moves() []Move {
 // that has the keys of a range by this plan. Neighbours have different partitions. There are no ranges if
 // the course is closed.
 func (c *Course) OldPlan() []Leg {
-	return allOf(c, legOf, func(at *C.squall_course, from C.size_t, out *C.squall_leg) C.size_t {
+	return allOf(c.handle(), legOf, func(at *C.squall_course, from C.size_t, out *C.squall_leg) C.size_t {
 		return C.squall_course_old(at, from, out, atOnce)
 	})
 }
 
 // NewPlan is the new plan as ranges, as [Course.OldPlan] is the old one.
 func (c *Course) NewPlan() []Leg {
-	return allOf(c, legOf, func(at *C.squall_course, from C.size_t, out *C.squall_leg) C.size_t {
+	return allOf(c.handle(), legOf, func(at *C.squall_course, from C.size_t, out *C.squall_leg) C.size_t {
 		return C.squall_course_new(at, from, out, atOnce)
 	})
 }
@@ -191,21 +153,8 @@ func (c *Course) text(write func(at *C.squall_course, out *C.uint8_t, room C.siz
 
 // textOr is the same. If there is no text, the error is none.
 func (c *Course) textOr(none error, write func(at *C.squall_course, out *C.uint8_t, room C.size_t) C.size_t) (string, error) {
-	bytes, err := []byte(nil), error(ErrClosed)
-	c.use(func(at *C.squall_course) {
-		bytes, err = written(none, func(out *C.uint8_t, room C.size_t) C.size_t { return write(at, out, room) })
-	})
-	return string(bytes), err
-}
-
-// allOf gathers items of a course by calls of fill. A call writes those from the index `from` on, at most
-// atOnce of them, and says how many. All calls are made under one lock, so that Close cuts nothing off.
-func allOf[In, Out any](c *Course, of func(In) Out, fill func(at *C.squall_course, from C.size_t, out *In) C.size_t) []Out {
-	var all []Out
-	c.use(func(at *C.squall_course) {
-		all = allIn(of, func(from C.size_t, out *In) C.size_t { return fill(at, from, out) })
-	})
-	return all
+	text, err := writtenBy(c.handle(), none, write)
+	return string(text), err
 }
 
 // Receivers are the partitions to which keys move in the sub-plan, by rising number. There are none if
@@ -214,9 +163,7 @@ func allOf[In, Out any](c *Course, of func(In) Out, fill func(at *C.squall_cours
 //
 // Errors: [ErrNoMemory]; [ErrClosed].
 func (c *Course) Receivers(sub uint32) ([]Part, error) {
-	parts, err := []Part(nil), error(ErrClosed)
-	c.use(func(at *C.squall_course) { parts, err = receivers(at, C.uint32_t(sub)) })
-	return parts, err
+	return with(c.handle(), func(at *C.squall_course) ([]Part, error) { return receivers(at, C.uint32_t(sub)) })
 }
 
 // receivers asks for the partitions in pieces, each twice as long as the one before, until one is not full.
@@ -240,11 +187,7 @@ func receivers(at *C.squall_course, sub C.uint32_t) ([]Part, error) {
 //
 // Errors: [ErrNoMemory]; [ErrClosed].
 func (c *Course) Frame() ([]byte, error) {
-	frame, err := []byte(nil), error(ErrClosed)
-	c.use(func(at *C.squall_course) {
-		frame, err = written(ErrClosed, func(out *C.uint8_t, room C.size_t) C.size_t {
-			return C.squall_course_frame(at, out, room)
-		})
+	return writtenBy(c.handle(), ErrClosed, func(at *C.squall_course, out *C.uint8_t, room C.size_t) C.size_t {
+		return C.squall_course_frame(at, out, room)
 	})
-	return frame, err
 }

@@ -164,11 +164,7 @@ func TestTheCourseBeforeAClash(t *testing.T) {
 	router := fresh(t)
 	succeeds(t, router.Issued(5, oldPlan))
 	succeeds(t, router.Issued(5, newPlan))
-	course, err := router.Course()
-	succeeds(t, err)
-	defer course.Close()
-	equals(t, course.Number(), uint32(1))
-	equals(t, course.Moves(), exampleMoves)
+	led(t, router, 1, exampleMoves)
 }
 
 // A router that knows one plan alone learns a course from the frames of another router, and can say what it is.
@@ -183,11 +179,7 @@ func TestACourseFromAFrame(t *testing.T) {
 	for _, frame := range boardOf(t, mover) {
 		succeeds(t, proxy.Hear(frame))
 	}
-	course, err := proxy.Course()
-	succeeds(t, err)
-	defer course.Close()
-	equals(t, course.Number(), uint32(2))
-	equals(t, course.Moves(), exampleMoves)
+	led(t, proxy, 2, exampleMoves)
 }
 
 func TestPlansAsTexts(t *testing.T) {

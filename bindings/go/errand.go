@@ -3,11 +3,6 @@ package squall
 // #include "library.h"
 import "C"
 
-import (
-	"runtime"
-	"sync"
-)
-
 // ReplyKind is what a partition replies when it is asked for a key. The zero value is no reply.
 type ReplyKind uint32
 
@@ -62,8 +57,7 @@ func (n Next) String() string {
 // Errand is the search for the partition that holds a key. It begins where a router or a view sends the
 // key, and follows the partitions' replies. [Router.Errand] and [View.Errand] open one.
 type Errand struct {
-	mu sync.Mutex
-	at *C.squall_errand // nil once it is closed
+	held handle[C.squall_errand]
 }
 
 // newErrand is the errand that was started, if it was.
@@ -74,44 +68,28 @@ func newErrand(started C.struct_started) (*Errand, error) {
 		}
 		return nil, errorOf(uint32(started.status), C.SQUALL_NO_PLACE)
 	}
-	errand := &Errand{at: started.errand}
-	runtime.SetFinalizer(errand, (*Errand).Close)
+	errand := new(Errand)
+	errand.held.hold(errand, &errands, started.errand)
 	return errand, nil
 }
 
 // Close closes the errand. It always returns nil.
 func (e *Errand) Close() error {
-	if e == nil {
-		return nil
-	}
-	e.mu.Lock()
-	defer e.mu.Unlock()
-	if e.at != nil {
-		C.end_errand(e.at)
-		e.at = nil
-		runtime.SetFinalizer(e, nil)
-	}
+	e.handle().close(e, func() {})
 	return nil
 }
 
-// use makes calls with the errand, which nobody else uses meanwhile, and says whether it is open.
-func (e *Errand) use(calls func(at *C.squall_errand)) bool {
+func (e *Errand) handle() *handle[C.squall_errand] {
 	if e == nil {
-		return false
+		return nil
 	}
-	e.mu.Lock()
-	defer e.mu.Unlock()
-	if e.at == nil {
-		return false
-	}
-	calls(e.at)
-	return true
+	return &e.held
 }
 
 // Asked is the partition to ask. It is [Nowhere] if the errand is closed.
 func (e *Errand) Asked() Part {
 	part := Nowhere
-	e.use(func(at *C.squall_errand) { part = Part(C.squall_errand_asked(at)) })
+	e.handle().use(func(at *C.squall_errand) { part = Part(C.squall_errand_asked(at)) })
 	return part
 }
 
@@ -119,7 +97,7 @@ func (e *Errand) Asked() Part {
 // know. It is 0 before the first, and if the errand is closed.
 func (e *Errand) Number() uint32 {
 	var number uint32
-	e.use(func(at *C.squall_errand) { number = uint32(C.squall_errand_number(at)) })
+	e.handle().use(func(at *C.squall_errand) { number = uint32(C.squall_errand_number(at)) })
 	return number
 }
 
@@ -130,7 +108,7 @@ func (e *Errand) Number() uint32 {
 // 9999; [ErrClosed].
 func (e *Errand) Heed(reply Reply) (Next, error) {
 	var next C.uint32_t
-	open := e.use(func(at *C.squall_errand) {
+	open := e.handle().use(func(at *C.squall_errand) {
 		// The zero kind becomes a number that is no reply either.
 		next = C.squall_errand_heed(at, C.uint32_t(reply.Kind-1), C.uint32_t(reply.Part), C.uint32_t(reply.Number))
 	})

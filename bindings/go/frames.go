@@ -61,13 +61,9 @@ func (r *Router) Digest() ([]byte, error) {
 //
 // Errors: [ErrTooLong] if the digest has more bytes, since it is not cut; [ErrNoMemory]; [ErrClosed].
 func (r *Router) DigestWithin(limit int) ([]byte, error) {
-	frames, err := r.gather(func(at *C.squall_router) C.uint32_t {
+	return alone(r.gather(func(at *C.squall_router) C.uint32_t {
 		return C.squall_router_gather_digest(at, C.size_t(limit))
-	})
-	if err != nil {
-		return nil, err
-	}
-	return frames[0], nil
+	}))
 }
 
 // Repair makes the frames of what the digest that was heard last does not show. There are none if it
@@ -88,15 +84,30 @@ func (r *Router) RepairWithin(limit int) (Frames, error) {
 
 // gather makes frames by a call, and fetches them before another call can make others.
 func (r *Router) gather(call func(at *C.squall_router) C.uint32_t) (Frames, error) {
+	return gather(r.handle(), call, func(at *C.squall_router, out *C.uint8_t, room C.size_t) C.size_t {
+		return C.squall_router_frame(at, out, room)
+	})
+}
+
+// gather makes frames by a call, and fetches them by calls of next, before another call can make others.
+func gather[T any](h *handle[T], call func(at *T) C.uint32_t, next func(at *T, out *C.uint8_t, room C.size_t) C.size_t) (Frames, error) {
 	var frames Frames
-	err := r.take(func(at *C.squall_router) C.uint32_t {
+	err := h.take(func(at *T) C.uint32_t {
 		status := call(at)
 		if status == C.SQUALL_OK {
-			frames = fetch(func(out *C.uint8_t, room C.size_t) C.size_t { return C.squall_router_frame(at, out, room) })
+			frames = fetch(func(out *C.uint8_t, room C.size_t) C.size_t { return next(at, out, room) })
 		}
 		return status
 	})
 	return frames, err
+}
+
+// alone is the only frame that was made, if frames were made.
+func alone(frames Frames, err error) ([]byte, error) {
+	if err != nil {
+		return nil, err
+	}
+	return frames[0], nil
 }
 
 // fetch takes the frames that wait, by calls of next. A call writes the next frame if there is room, and says
@@ -123,7 +134,7 @@ func fetch(next func(out *C.uint8_t, room C.size_t) C.size_t) Frames {
 // Errors: a [FrameFault] if the bytes are no frame; [ErrFull] if the router would tell more than [Router.Limit]
 // allows; [ErrNoMemory]; [ErrClosed]. The next frame may come.
 func (r *Router) Hear(frame []byte) error {
-	return r.take(func(at *C.squall_router) C.uint32_t {
+	return r.handle().take(func(at *C.squall_router) C.uint32_t {
 		bytes, size := bytesOf(frame)
 		return C.squall_router_hear(at, bytes, size)
 	})
@@ -158,15 +169,15 @@ func (r *Router) ReadFrom(from io.Reader) (int64, error) {
 // frame.
 func (r *Router) Waiting() int {
 	var waiting int
-	r.use(func(at *C.squall_router) { waiting = int(C.squall_router_waiting(at)) })
+	r.handle().use(func(at *C.squall_router) { waiting = int(C.squall_router_waiting(at)) })
 	return waiting
 }
 
 func (r *Router) useStream(calls func(s *stream)) bool {
-	return r.use(func(*C.squall_router) { calls(&r.stream) })
+	return r.handle().use(func(*C.squall_router) { calls(&r.stream) })
 }
 
 func (r *Router) feedNext(bytes []byte) error {
 	at, size := bytesOf(bytes)
-	return r.check(C.squall_router_feed(r.at, at, size))
+	return routers.check(r.held.at, C.squall_router_feed(r.held.at, at, size))
 }

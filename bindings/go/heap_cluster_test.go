@@ -256,17 +256,5 @@ func openedRoles(t *testing.T, isClosed bool) int {
 
 // Rooms and blocks of partitions and leaders are freed by Close, or else by finalizers.
 func TestRoomsOfPartitionsAndLeaders(t *testing.T) {
-	for _, isClosed := range []bool{true, false} {
-		openedRoles(t, isClosed)
-		settle(t)
-		before, blocks := inUse(), allocated()
-		count := openedRoles(t, isClosed)
-		settle(t)
-		if grown := inUse() - before; grown > count*12 {
-			t.Errorf("closed %v: %d bytes are in use of %d that were opened", isClosed, grown, count)
-		}
-		if allocated() != blocks {
-			t.Errorf("closed %v: %d blocks are left of %d", isClosed, allocated(), blocks)
-		}
-	}
+	freesRooms(t, openedRoles)
 }

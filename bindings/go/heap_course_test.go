@@ -100,11 +100,7 @@ func TestOpeningsOfCoursesWithoutMemory(t *testing.T) {
 // What the documentation of the library says of courses and places. Each block is freed by the last of a
 // router and its courses.
 func TestCallsOfCoursesThatAllocateNothing(t *testing.T) {
-	settle(t)
-	before := allocated()
-	router := busy(t)
-	view, err := router.View()
-	succeed(t, err)
+	before, router, view := viewed(t)
 	refuse(0)
 	course, err := router.Course()
 	succeed(t, err)
@@ -156,17 +152,5 @@ func openedCourses(t *testing.T, isClosed bool) int {
 
 // Rooms and blocks of courses are freed by Close, or else by finalizers.
 func TestRoomsOfCourses(t *testing.T) {
-	for _, isClosed := range []bool{true, false} {
-		openedCourses(t, isClosed)
-		settle(t)
-		before, blocks := inUse(), allocated()
-		count := openedCourses(t, isClosed)
-		settle(t)
-		if grown := inUse() - before; grown > count*12 {
-			t.Errorf("closed %v: %d bytes are in use of %d that were opened", isClosed, grown, count)
-		}
-		if allocated() != blocks {
-			t.Errorf("closed %v: %d blocks are left of %d", isClosed, allocated(), blocks)
-		}
-	}
+	freesRooms(t, openedCourses)
 }

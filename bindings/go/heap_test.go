@@ -65,34 +65,6 @@ func seenOf(t *testing.T, router *Router) seen {
 	return seen{board, router.Legs(0, End), router.Number()}
 }
 
-// refuseEach makes a call of a busy router with each of its allocations refused in turn.
-func refuseEach(t *testing.T, call func(router *Router) error) {
-	t.Helper()
-	answered := 0
-	for number, more := 1, true; more; number++ {
-		router := busy(t)
-		before := seenOf(t, router)
-		refuse(number)
-		err := call(router)
-		more = asked() >= number
-		refuse(0)
-		if err != nil && (err != ErrNoMemory || !more) {
-			t.Fatal(err)
-		}
-		if err != nil {
-			answered++
-			if after := seenOf(t, router); !reflect.DeepEqual(before, after) {
-				t.Errorf("allocation %d: %v became %v", number, before, after)
-			}
-			succeed(t, call(router))
-		}
-		router.Close()
-	}
-	if answered == 0 {
-		t.Error("no allocation was refused")
-	}
-}
-
 func TestCallsWithoutMemory(t *testing.T) {
 	frame, plan := bytesOfHex(t, frameOfALoad), file(t, "old.json")
 	for name, call := range map[string]func(*Router) error{
@@ -110,7 +82,10 @@ func TestCallsWithoutMemory(t *testing.T) {
 		"Repair":        func(r *Router) error { _, err := r.Repair(); return err },
 		"View":          func(r *Router) error { view, err := r.View(); view.Close(); return err },
 	} {
-		t.Run(name, func(t *testing.T) { refuseEach(t, call) })
+		t.Run(name, func(t *testing.T) {
+			see := func(router *Router) any { return seenOf(t, router) }
+			refuseEachOf(t, func() *Router { return busy(t) }, see, call)
+		})
 	}
 }
 
@@ -207,13 +182,20 @@ func firstOf(errs ...error) error {
 	return nil
 }
 
-// What the documentation says of routes, and each block is freed by Close.
-func TestCallsThatAllocateNothing(t *testing.T) {
+// viewed is a busy router with a view of it, and how many blocks were allocated before both.
+func viewed(t *testing.T) (int, *Router, *View) {
+	t.Helper()
 	settle(t)
 	before := allocated()
 	router := busy(t)
 	view, err := router.View()
 	succeed(t, err)
+	return before, router, view
+}
+
+// What the documentation says of routes, and each block is freed by Close.
+func TestCallsThatAllocateNothing(t *testing.T) {
+	before, router, view := viewed(t)
 	refuse(0)
 	router.Route(7)
 	router.Legs(0, End)
@@ -301,15 +283,24 @@ func failing(t *testing.T, router *Router) {
 
 // Rooms are freed too, which the library's heap does not count.
 func TestRooms(t *testing.T) {
+	freesRooms(t, opened)
+}
+
+// freesRooms checks that rooms and blocks of what `open` opens are freed by Close, or else by finalizers.
+func freesRooms(t *testing.T, open func(t *testing.T, isClosed bool) int) {
+	t.Helper()
 	for _, isClosed := range []bool{true, false} {
-		opened(t, isClosed)
+		open(t, isClosed)
 		settle(t)
-		before := inUse()
-		count := opened(t, isClosed)
+		before, blocks := inUse(), allocated()
+		count := open(t, isClosed)
 		settle(t)
 		// A room has at least 24 bytes, and the heap keeps some freed blocks for each thread.
 		if grown := inUse() - before; grown > count*12 {
 			t.Errorf("closed %v: %d bytes are in use of %d that were opened", isClosed, grown, count)
+		}
+		if allocated() != blocks {
+			t.Errorf("closed %v: %d blocks are left of %d", isClosed, allocated(), blocks)
 		}
 	}
 }

@@ -98,3 +98,13 @@ func allIn[In, Out any](of func(In) Out, fill func(from C.size_t, out *In) C.siz
 	}
 	return all
 }
+
+// allOf gathers items by calls of fill with the handle, as [allIn] does. All calls are made under one lock, so that
+// Close cuts nothing off, and no other call comes between.
+func allOf[T, In, Out any](h *handle[T], of func(In) Out, fill func(at *T, from C.size_t, out *In) C.size_t) []Out {
+	var all []Out
+	h.use(func(at *T) {
+		all = allIn(of, func(from C.size_t, out *In) C.size_t { return fill(at, from, out) })
+	})
+	return all
+}

@@ -3,12 +3,7 @@ package squall
 // #include "library.h"
 import "C"
 
-import (
-	"io"
-	"runtime"
-	"sync"
-	"unsafe"
-)
+import "io"
 
 // Leader begins one course after another, and opens their sub-plans, one at a time. It hears from partitions
 // what is done, and sends all that it knows. Only one leader may run at a time.
@@ -16,8 +11,7 @@ import (
 // A program keeps a log of the calls that returned no error, each before its frames are sent. The same calls,
 // made of a new leader of the same plan and number, lead to the same leader.
 type Leader struct {
-	mu     sync.Mutex
-	at     *C.squall_leader // nil once it is closed
+	held   handle[C.squall_leader]
 	stream stream
 }
 
@@ -37,72 +31,27 @@ func OpenLeader(plan []byte, last uint32) (*Leader, error) {
 //
 // Errors: [ErrNoMemory]; [ErrClosed] if the course was closed, or is nil.
 func ResumeLeader(course *Course) (*Leader, error) {
-	leader, err := (*Leader)(nil), error(ErrClosed)
-	course.use(func(at *C.squall_course) {
-		leader, err = newLeader(func(room *C.squall_leader) { C.squall_leader_resume(at, room) })
+	return with(course.handle(), func(at *C.squall_course) (*Leader, error) {
+		return newLeader(func(room *C.squall_leader) { C.squall_leader_resume(at, room) })
 	})
-	return leader, err
 }
 
 // newLeader is the leader that a call opens in the room that it is given.
 func newLeader(open func(room *C.squall_leader)) (*Leader, error) {
-	room := (*C.squall_leader)(C.calloc(1, C.squall_leader_size()))
-	if room == nil {
-		return nil, ErrNoMemory
-	}
-	open(room)
-	leader := &Leader{at: room}
-	runtime.SetFinalizer(leader, (*Leader).Close)
-	if err := leader.check(C.squall_leader_status(room)); err != nil {
-		leader.Close()
-		return nil, err
-	}
-	return leader, nil
+	return openFor(new(Leader), &leaders, open)
 }
 
 // Close closes the leader. Courses of it go on. It always returns nil.
 func (l *Leader) Close() error {
-	if l == nil {
-		return nil
-	}
-	l.mu.Lock()
-	defer l.mu.Unlock()
-	if l.at != nil {
-		C.squall_leader_close(l.at)
-		C.free(unsafe.Pointer(l.at))
-		l.at, l.stream.unfed = nil, nil
-		runtime.SetFinalizer(l, nil)
-	}
+	l.handle().close(l, func() { l.stream.unfed = nil })
 	return nil
 }
 
-// use makes calls with the leader, which nobody else uses meanwhile, and says whether it is open.
-func (l *Leader) use(calls func(at *C.squall_leader)) bool {
+func (l *Leader) handle() *handle[C.squall_leader] {
 	if l == nil {
-		return false
-	}
-	l.mu.Lock()
-	defer l.mu.Unlock()
-	if l.at == nil {
-		return false
-	}
-	calls(l.at)
-	return true
-}
-
-// take makes a call that answers a status, and returns the error of that.
-func (l *Leader) take(call func(at *C.squall_leader) C.uint32_t) error {
-	err := error(ErrClosed)
-	l.use(func(at *C.squall_leader) { err = l.check(call(at)) })
-	return err
-}
-
-// check is the error of a status that the leader has answered.
-func (l *Leader) check(status C.uint32_t) error {
-	if status == C.SQUALL_OK {
 		return nil
 	}
-	return errorOf(uint32(status), uint64(C.squall_leader_fault_at(l.at)))
+	return &l.held
 }
 
 // Feed takes the next bytes of a stream of frames, which may be cut anywhere, as [Router.Feed] does. Deltas
@@ -132,17 +81,17 @@ func (l *Leader) ReadFrom(from io.Reader) (int64, error) {
 // frame.
 func (l *Leader) Waiting() int {
 	var waiting int
-	l.use(func(at *C.squall_leader) { waiting = int(C.squall_leader_waiting(at)) })
+	l.handle().use(func(at *C.squall_leader) { waiting = int(C.squall_leader_waiting(at)) })
 	return waiting
 }
 
 func (l *Leader) useStream(calls func(s *stream)) bool {
-	return l.use(func(*C.squall_leader) { calls(&l.stream) })
+	return l.handle().use(func(*C.squall_leader) { calls(&l.stream) })
 }
 
 func (l *Leader) feedNext(bytes []byte) error {
 	at, size := bytesOf(bytes)
-	return l.check(C.squall_leader_feed(l.at, at, size))
+	return leaders.check(l.held.at, C.squall_leader_feed(l.held.at, at, size))
 }
 
 // Hear takes one whole frame, as [Router.Hear] does. A delta is taken as reports. A digest is kept for
@@ -150,7 +99,7 @@ func (l *Leader) feedNext(bytes []byte) error {
 //
 // Errors: a [FrameFault] if the bytes are no frame; [ErrNoMemory]; [ErrClosed]. The next frame may come.
 func (l *Leader) Hear(frame []byte) error {
-	return l.take(func(at *C.squall_leader) C.uint32_t {
+	return l.handle().take(func(at *C.squall_leader) C.uint32_t {
 		bytes, size := bytesOf(frame)
 		return C.squall_leader_hear(at, bytes, size)
 	})
@@ -162,7 +111,7 @@ func (l *Leader) Hear(frame []byte) error {
 // Errors: a [PlanError] if the text is no plan; [ErrRunning] if the course begun last is not over;
 // [ErrNoNumber] if the greatest number is used; [ErrNoMemory]; [ErrClosed].
 func (l *Leader) Begin(plan []byte) error {
-	return l.take(func(at *C.squall_leader) C.uint32_t {
+	return l.handle().take(func(at *C.squall_leader) C.uint32_t {
 		text, size := bytesOf(plan)
 		return C.squall_leader_begin(at, text, size)
 	})
@@ -178,7 +127,7 @@ func (l *Leader) Begin(plan []byte) error {
 // Errors: a [PlanError] if a text is no plan, of the first one that is none; [ErrNoNumber] if the greatest number
 // is used; [ErrNoMemory]; [ErrClosed].
 func (l *Leader) BeginFrom(oldPlan, newPlan []byte) error {
-	return l.take(func(at *C.squall_leader) C.uint32_t {
+	return l.handle().take(func(at *C.squall_leader) C.uint32_t {
 		oldText, oldSize := bytesOf(oldPlan)
 		newText, newSize := bytesOf(newPlan)
 		return C.squall_leader_begin_from(at, oldText, oldSize, newText, newSize)
@@ -189,15 +138,14 @@ func (l *Leader) BeginFrom(oldPlan, newPlan []byte) error {
 //
 // Errors: [ErrIdle] if no course is begun; [ErrNoMemory]; [ErrClosed].
 func (l *Leader) Course() (*Course, error) {
-	course, err := (*Course)(nil), error(ErrClosed)
-	l.use(func(at *C.squall_leader) {
-		course, err = newCourse(func(room *C.squall_course) { C.squall_leader_course(at, room) })
+	return with(l.handle(), func(at *C.squall_leader) (*Course, error) {
+		course, err := newCourse(func(room *C.squall_course) { C.squall_leader_course(at, room) })
 		if err == ErrClosed {
 			// The leader is open, so that it has begun none.
 			err = ErrIdle
 		}
+		return course, err
 	})
-	return course, err
 }
 
 // OpenNext opens the next sub-plan of the course begun last, and returns its number. [Leader.Board] sends the
@@ -208,7 +156,7 @@ func (l *Leader) Course() (*Course, error) {
 // [ErrNoMemory]; [ErrClosed].
 func (l *Leader) OpenNext() (uint32, error) {
 	var out [2]C.uint32_t
-	err := l.take(func(at *C.squall_leader) C.uint32_t { return C.squall_leader_open_next(at, &out[0], 2) })
+	err := l.handle().take(func(at *C.squall_leader) C.uint32_t { return C.squall_leader_open_next(at, &out[0], 2) })
 	switch err {
 	case nil:
 		return uint32(out[0]), nil
@@ -222,7 +170,7 @@ func (l *Leader) OpenNext() (uint32, error) {
 // if no course is begun, or if the leader is closed.
 func (l *Leader) Finished() bool {
 	finished := false
-	l.use(func(at *C.squall_leader) { finished = C.squall_leader_finished(at) == 1 })
+	l.handle().use(func(at *C.squall_leader) { finished = C.squall_leader_finished(at) == 1 })
 	return finished
 }
 
@@ -253,13 +201,9 @@ func (l *Leader) Digest() ([]byte, error) {
 //
 // Errors: [ErrTooLong] if the digest has more bytes, since it is not cut; [ErrNoMemory]; [ErrClosed].
 func (l *Leader) DigestWithin(limit int) ([]byte, error) {
-	frames, err := l.gather(func(at *C.squall_leader) C.uint32_t {
+	return alone(l.gather(func(at *C.squall_leader) C.uint32_t {
 		return C.squall_leader_gather_digest(at, C.size_t(limit))
-	})
-	if err != nil {
-		return nil, err
-	}
-	return frames[0], nil
+	}))
 }
 
 // Repair makes the frames of what the digest that was heard last does not show, as [Router.Repair] does. There
@@ -279,13 +223,7 @@ func (l *Leader) RepairWithin(limit int) (Frames, error) {
 
 // gather makes frames by a call, and fetches them before another call can make others.
 func (l *Leader) gather(call func(at *C.squall_leader) C.uint32_t) (Frames, error) {
-	var frames Frames
-	err := l.take(func(at *C.squall_leader) C.uint32_t {
-		status := call(at)
-		if status == C.SQUALL_OK {
-			frames = fetch(func(out *C.uint8_t, room C.size_t) C.size_t { return C.squall_leader_frame(at, out, room) })
-		}
-		return status
+	return gather(l.handle(), call, func(at *C.squall_leader, out *C.uint8_t, room C.size_t) C.size_t {
+		return C.squall_leader_frame(at, out, room)
 	})
-	return frames, err
 }

@@ -32,10 +32,12 @@ func opensNext(t testing.TB, leader *squall.Leader, wanted uint32, wantedErr err
 	equals(t, []any{sub, err}, []any{wanted, wantedErr})
 }
 
-// led checks the course that the leader has begun last.
-func led(t testing.TB, leader *squall.Leader, number uint32, moves []squall.Move) {
+// led checks the newest course of a leader or a router.
+func led(t testing.TB, by interface {
+	Course() (*squall.Course, error)
+}, number uint32, moves []squall.Move) {
 	t.Helper()
-	course, err := leader.Course()
+	course, err := by.Course()
 	succeeds(t, err)
 	defer course.Close()
 	equals(t, course.Number(), number)

@@ -49,10 +49,19 @@ static inline struct started start_errand(const squall_router *router, const squ
     return (struct started){room, squall_errand_status(room)};
 }
 
-static inline void end_errand(squall_errand *errand) {
-    squall_errand_close(errand);
-    free(errand);
-}
+/* Closes a handle and frees its room. */
+#define SQUALL_GO_END(kind)                         \
+    static inline void end_##kind(squall_##kind *at) { \
+        squall_##kind##_close(at);                  \
+        free(at);                                   \
+    }
+
+SQUALL_GO_END(router)
+SQUALL_GO_END(view)
+SQUALL_GO_END(errand)
+SQUALL_GO_END(course)
+SQUALL_GO_END(part)
+SQUALL_GO_END(leader)
 
 /* Where one key is, by a view that is open. Go would allocate memory for an answer by a pointer. */
 static inline squall_place place_of(const squall_view *view, uint64_t rank) {

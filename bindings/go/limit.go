@@ -17,7 +17,7 @@ const NoLimit uint64 = C.SQUALL_NO_LIMIT
 //
 // Errors: [ErrClosed].
 func (r *Router) Limit(most Counts) error {
-	return r.take(func(at *C.squall_router) C.uint32_t {
+	return r.handle().take(func(at *C.squall_router) C.uint32_t {
 		return C.squall_router_limit(at,
 			C.uint64_t(most.Cells), C.uint64_t(most.Spans), C.uint64_t(most.Opened), C.uint64_t(most.Issues))
 	})
@@ -27,6 +27,6 @@ func (r *Router) Limit(most Counts) error {
 // if the router is closed.
 func (r *Router) Taken() uint64 {
 	var taken uint64
-	r.use(func(at *C.squall_router) { taken = uint64(C.squall_router_taken(at)) })
+	r.handle().use(func(at *C.squall_router) { taken = uint64(C.squall_router_taken(at)) })
 	return taken
 }

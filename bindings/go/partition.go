@@ -3,12 +3,7 @@ package squall
 // #include "library.h"
 import "C"
 
-import (
-	"io"
-	"runtime"
-	"sync"
-	"unsafe"
-)
+import "io"
 
 // Partition keeps which keys a partition holds, gave and loaded. It gives and loads keys while they move, and
 // replies to requests for them. The rows stay with the program, which makes each call in the transaction in
@@ -17,8 +12,7 @@ import (
 // Or else it keeps a log of the calls that returned no error. The same calls, made of a new partition of the
 // same course, lead to the same partition.
 type Partition struct {
-	mu     sync.Mutex
-	at     *C.squall_part // nil once it is closed
+	held   handle[C.squall_part]
 	stream stream
 }
 
@@ -51,64 +45,27 @@ func (c Chunk) inC() C.squall_chunk {
 // Errors: [ErrLimit] if the number is above 9999; [ErrNoMemory]; [ErrClosed] if the course was closed, or is
 // nil.
 func OpenPartition(id Part, course *Course) (*Partition, error) {
-	partition, err := (*Partition)(nil), error(ErrClosed)
-	course.use(func(at *C.squall_course) {
-		partition, err = newPartition(func(room *C.squall_part) { C.squall_part_open(C.uint32_t(id), at, room) })
+	return with(course.handle(), func(at *C.squall_course) (*Partition, error) {
+		return newPartition(func(room *C.squall_part) { C.squall_part_open(C.uint32_t(id), at, room) })
 	})
-	return partition, err
 }
 
 // newPartition is the partition that a call opens in the room that it is given.
 func newPartition(open func(room *C.squall_part)) (*Partition, error) {
-	room := (*C.squall_part)(C.calloc(1, C.squall_part_size()))
-	if room == nil {
-		return nil, ErrNoMemory
-	}
-	open(room)
-	partition := &Partition{at: room}
-	runtime.SetFinalizer(partition, (*Partition).Close)
-	if err := errorOf(uint32(C.squall_part_status(room)), C.SQUALL_NO_PLACE); err != nil {
-		partition.Close()
-		return nil, err
-	}
-	return partition, nil
+	return openFor(new(Partition), &partitions, open)
 }
 
 // Close closes the partition. It always returns nil.
 func (p *Partition) Close() error {
-	if p == nil {
-		return nil
-	}
-	p.mu.Lock()
-	defer p.mu.Unlock()
-	if p.at != nil {
-		C.squall_part_close(p.at)
-		C.free(unsafe.Pointer(p.at))
-		p.at, p.stream.unfed = nil, nil
-		runtime.SetFinalizer(p, nil)
-	}
+	p.handle().close(p, func() { p.stream.unfed = nil })
 	return nil
 }
 
-// use makes calls with the partition, which nobody else uses meanwhile, and says whether it is open.
-func (p *Partition) use(calls func(at *C.squall_part)) bool {
+func (p *Partition) handle() *handle[C.squall_part] {
 	if p == nil {
-		return false
+		return nil
 	}
-	p.mu.Lock()
-	defer p.mu.Unlock()
-	if p.at == nil {
-		return false
-	}
-	calls(p.at)
-	return true
-}
-
-// take makes a call that answers a status, and returns the error of that.
-func (p *Partition) take(call func(at *C.squall_part) C.uint32_t) error {
-	status := C.uint32_t(C.SQUALL_CLOSED)
-	p.use(func(at *C.squall_part) { status = call(at) })
-	return errorOf(uint32(status), C.SQUALL_NO_PLACE)
+	return &p.held
 }
 
 // Feed takes the next bytes of a stream of frames, which may be cut anywhere, as [Router.Feed] does. Deltas
@@ -138,17 +95,17 @@ func (p *Partition) ReadFrom(from io.Reader) (int64, error) {
 // frame.
 func (p *Partition) Waiting() int {
 	var waiting int
-	p.use(func(at *C.squall_part) { waiting = int(C.squall_part_waiting(at)) })
+	p.handle().use(func(at *C.squall_part) { waiting = int(C.squall_part_waiting(at)) })
 	return waiting
 }
 
 func (p *Partition) useStream(calls func(s *stream)) bool {
-	return p.use(func(*C.squall_part) { calls(&p.stream) })
+	return p.handle().use(func(*C.squall_part) { calls(&p.stream) })
 }
 
 func (p *Partition) feedNext(bytes []byte) error {
 	at, size := bytesOf(bytes)
-	return errorOf(uint32(C.squall_part_feed(p.at, at, size)), C.SQUALL_NO_PLACE)
+	return partitions.check(p.held.at, C.squall_part_feed(p.held.at, at, size))
 }
 
 // Hear takes one whole frame, as [Router.Hear] does. A delta is taken as reports. A digest is kept for
@@ -156,7 +113,7 @@ func (p *Partition) feedNext(bytes []byte) error {
 //
 // Errors: a [FrameFault] if the bytes are no frame; [ErrNoMemory]; [ErrClosed]. The next frame may come.
 func (p *Partition) Hear(frame []byte) error {
-	return p.take(func(at *C.squall_part) C.uint32_t {
+	return p.handle().take(func(at *C.squall_part) C.uint32_t {
 		bytes, size := bytesOf(frame)
 		return C.squall_part_hear(at, bytes, size)
 	})
@@ -191,7 +148,7 @@ func (p *Partition) GiveAt(key Rank) (Chunk, error) {
 // give is the chunk that a call writes, unless it answers an error.
 func (p *Partition) give(call func(at *C.squall_part, out *C.squall_chunk) C.uint32_t) (Chunk, error) {
 	var chunk C.squall_chunk
-	err := p.take(func(at *C.squall_part) C.uint32_t { return call(at, &chunk) })
+	err := p.handle().take(func(at *C.squall_part) C.uint32_t { return call(at, &chunk) })
 	return chunkOf(chunk), err
 }
 
@@ -205,7 +162,7 @@ func (p *Partition) give(call func(at *C.squall_part, out *C.squall_chunk) C.uin
 // [ErrNoMemory]; [ErrClosed].
 func (p *Partition) Load(chunk Chunk) (bool, error) {
 	status, in := C.uint32_t(C.SQUALL_CLOSED), chunk.inC()
-	p.use(func(at *C.squall_part) { status = C.squall_part_load(at, &in) })
+	p.handle().use(func(at *C.squall_part) { status = C.squall_part_load(at, &in) })
 	if status == C.SQUALL_LOADED_BEFORE {
 		return false, nil
 	}
@@ -220,7 +177,7 @@ func (p *Partition) Load(chunk Chunk) (bool, error) {
 func (p *Partition) Fresh(chunk Chunk) ([]Span, error) {
 	var spans []Span
 	in := chunk.inC()
-	err := p.take(func(at *C.squall_part) C.uint32_t {
+	err := p.handle().take(func(at *C.squall_part) C.uint32_t {
 		for span := (C.squall_span{}); ; spans = append(spans, spanOf(span)) {
 			status := C.squall_part_fresh(at, &in, span.hi, &span)
 			if status != C.SQUALL_OK || span.lo == span.hi {
@@ -243,7 +200,7 @@ func (p *Partition) Fresh(chunk Chunk) ([]Span, error) {
 //   - [ErrNothingDue] if the sub-plan brings it none;
 //   - [ErrNoMemory].
 func (p *Partition) Finish(sub uint32) error {
-	return p.take(func(at *C.squall_part) C.uint32_t { return C.squall_part_finish(at, C.uint32_t(sub)) })
+	return p.handle().take(func(at *C.squall_part) C.uint32_t { return C.squall_part_finish(at, C.uint32_t(sub)) })
 }
 
 // CloseCourse ends what the partition gives in the newest course that it knows, and returns the number of that
@@ -252,7 +209,7 @@ func (p *Partition) Finish(sub uint32) error {
 // before the number is passed on.
 func (p *Partition) CloseCourse() uint32 {
 	var number uint32
-	p.use(func(at *C.squall_part) { number = uint32(C.squall_part_close_course(at)) })
+	p.handle().use(func(at *C.squall_part) { number = uint32(C.squall_part_close_course(at)) })
 	return number
 }
 
@@ -260,7 +217,7 @@ func (p *Partition) CloseCourse() uint32 {
 // heard of the course, or if the partition is closed.
 func (p *Partition) CourseClosed(number uint32) bool {
 	closed := false
-	p.use(func(at *C.squall_part) { closed = C.squall_part_course_closed(at, C.uint32_t(number)) == 1 })
+	p.handle().use(func(at *C.squall_part) { closed = C.squall_part_course_closed(at, C.uint32_t(number)) == 1 })
 	return closed
 }
 
@@ -270,7 +227,7 @@ func (p *Partition) CourseClosed(number uint32) bool {
 // Errors: [ErrLimit] if the rank is no key's; [ErrClosed].
 func (p *Partition) Serve(key Rank, after uint32) (Reply, error) {
 	var answer C.squall_answer
-	err := p.take(func(at *C.squall_part) C.uint32_t {
+	err := p.handle().take(func(at *C.squall_part) C.uint32_t {
 		return C.squall_part_serve(at, C.uint64_t(key), C.uint32_t(after), &answer)
 	})
 	if err != nil {
@@ -282,7 +239,7 @@ func (p *Partition) Serve(key Rank, after uint32) (Reply, error) {
 // Held are the spans of the keys that the partition holds, by rising key. Neighbours do not touch. There are
 // none if the partition is closed.
 func (p *Partition) Held() []Span {
-	return p.spans(func(at *C.squall_part, from C.size_t, out *C.squall_span) C.size_t {
+	return allOf(p.handle(), spanOf, func(at *C.squall_part, from C.size_t, out *C.squall_span) C.size_t {
 		return C.squall_part_held(at, from, out, atOnce)
 	})
 }
@@ -290,25 +247,16 @@ func (p *Partition) Held() []Span {
 // Given are the spans of the keys that it gave in the course of that number, likewise. There are none if it
 // does not know the course.
 func (p *Partition) Given(number uint32) []Span {
-	return p.spans(func(at *C.squall_part, from C.size_t, out *C.squall_span) C.size_t {
+	return allOf(p.handle(), spanOf, func(at *C.squall_part, from C.size_t, out *C.squall_span) C.size_t {
 		return C.squall_part_given(at, C.uint32_t(number), from, out, atOnce)
 	})
 }
 
 // Loaded are the spans of the keys that it loaded in the course of that number, likewise.
 func (p *Partition) Loaded(number uint32) []Span {
-	return p.spans(func(at *C.squall_part, from C.size_t, out *C.squall_span) C.size_t {
+	return allOf(p.handle(), spanOf, func(at *C.squall_part, from C.size_t, out *C.squall_span) C.size_t {
 		return C.squall_part_loaded(at, C.uint32_t(number), from, out, atOnce)
 	})
-}
-
-// spans gathers spans by calls of fill, all of them under one lock, so that no other call comes between.
-func (p *Partition) spans(fill func(at *C.squall_part, from C.size_t, out *C.squall_span) C.size_t) []Span {
-	var all []Span
-	p.use(func(at *C.squall_part) {
-		all = allIn(spanOf, func(from C.size_t, out *C.squall_span) C.size_t { return fill(at, from, out) })
-	})
-	return all
 }
 
 // Board makes the frames of all that the partition knows and reports. There are none if that is nothing.
@@ -338,13 +286,9 @@ func (p *Partition) Digest() ([]byte, error) {
 //
 // Errors: [ErrTooLong] if the digest has more bytes, since it is not cut; [ErrNoMemory]; [ErrClosed].
 func (p *Partition) DigestWithin(limit int) ([]byte, error) {
-	frames, err := p.gather(func(at *C.squall_part) C.uint32_t {
+	return alone(p.gather(func(at *C.squall_part) C.uint32_t {
 		return C.squall_part_gather_digest(at, C.size_t(limit))
-	})
-	if err != nil {
-		return nil, err
-	}
-	return frames[0], nil
+	}))
 }
 
 // Repair makes the frames of what the digest that was heard last does not show, as [Router.Repair] does. There
@@ -364,13 +308,7 @@ func (p *Partition) RepairWithin(limit int) (Frames, error) {
 
 // gather makes frames by a call, and fetches them before another call can make others.
 func (p *Partition) gather(call func(at *C.squall_part) C.uint32_t) (Frames, error) {
-	var frames Frames
-	err := p.take(func(at *C.squall_part) C.uint32_t {
-		status := call(at)
-		if status == C.SQUALL_OK {
-			frames = fetch(func(out *C.uint8_t, room C.size_t) C.size_t { return C.squall_part_frame(at, out, room) })
-		}
-		return status
+	return gather(p.handle(), call, func(at *C.squall_part, out *C.uint8_t, room C.size_t) C.size_t {
+		return C.squall_part_frame(at, out, room)
 	})
-	return frames, err
 }

@@ -34,18 +34,10 @@ func (p Place) IsSettled() bool {
 // [Nowhere], and its Sub is [NoSub]. If the view is closed, nothing is written, and the count is 0. It makes
 // one call into C for all keys.
 func (v *View) Locate(keys []Rank, places []Place) int {
-	if len(keys) == 0 || len(places) == 0 {
-		return 0
-	}
-	at := v.read()
-	if at == nil {
-		return 0
-	}
-	// The fields of a Place are those of a squall_place.
-	ranks, out := (*C.uint64_t)(unsafe.Pointer(&keys[0])), (*C.squall_place)(unsafe.Pointer(&places[0]))
-	count := C.squall_view_locate(at, ranks, C.size_t(len(keys)), out, C.size_t(len(places)))
-	v.done()
-	return int(count)
+	return eachKey(v, keys, places, func(at *C.squall_view, ranks *C.uint64_t, count C.size_t, out *Place, room C.size_t) C.size_t {
+		// The fields of a Place are those of a squall_place.
+		return C.squall_view_locate(at, ranks, count, (*C.squall_place)(unsafe.Pointer(out)), room)
+	})
 }
 
 // Place is where one key is. Its partitions are [Nowhere], its Sub is [NoSub], and the second result is

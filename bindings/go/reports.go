@@ -47,3 +47,10 @@ func written(none error, write func(out *C.uint8_t, room C.size_t) C.size_t) ([]
 		}
 	}
 }
+
+// writtenBy is what a call writes that needs the handle open, as those of [written] do.
+func writtenBy[T any](h *handle[T], none error, write func(at *T, out *C.uint8_t, room C.size_t) C.size_t) ([]byte, error) {
+	return with(h, func(at *T) ([]byte, error) {
+		return written(none, func(out *C.uint8_t, room C.size_t) C.size_t { return write(at, out, room) })
+	})
+}

@@ -97,15 +97,22 @@ func TestFaultsInReadersOfEach(t *testing.T) {
 	})
 }
 
+// readsPipe has it read a pipe beside the test. What this ended with comes over the channel.
+func readsPipe(it streamed) (*io.PipeReader, *io.PipeWriter, chan error) {
+	from, to := io.Pipe()
+	ended := make(chan error)
+	go func() {
+		_, err := it.ReadFrom(from)
+		ended <- err
+	}()
+	return from, to, ended
+}
+
 // While a reader's frames come, no other bytes are taken into the stream, and all else goes on.
 func TestOneReaderOfEach(t *testing.T) {
 	forEachStreamer(t, func(t *testing.T, open func() streamed, wanted squall.Frames) {
-		it, ended := open(), make(chan error)
-		from, to := io.Pipe()
-		go func() {
-			_, err := it.ReadFrom(from)
-			ended <- err
-		}()
+		it := open()
+		_, to, ended := readsPipe(it)
 		frame := unhex(loadFrame)
 		_, err := to.Write(frame[:20])
 		succeeds(t, err)
@@ -125,12 +132,8 @@ func TestOneReaderOfEach(t *testing.T) {
 // One that is closed while it reads ends the reading when the next bytes come.
 func TestEachThatIsClosedWhileItReads(t *testing.T) {
 	forEachStreamer(t, func(t *testing.T, open func() streamed, _ squall.Frames) {
-		it, ended := open(), make(chan error)
-		from, to := io.Pipe()
-		go func() {
-			_, err := it.ReadFrom(from)
-			ended <- err
-		}()
+		it := open()
+		from, to, ended := readsPipe(it)
 		_, err := to.Write(unhex(loadFrame)[:20])
 		succeeds(t, err)
 		succeeds(t, it.Close())

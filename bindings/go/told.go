@@ -43,7 +43,7 @@ func (r *Router) Counts() (Counts, error) {
 // tell makes a call that answers a count, and returns the error of that.
 func (r *Router) tell(call func(at *C.squall_router) C.size_t) error {
 	var answer C.size_t
-	switch open := r.use(func(at *C.squall_router) { answer = call(at) }); {
+	switch open := r.handle().use(func(at *C.squall_router) { answer = call(at) }); {
 	case !open:
 		return ErrClosed
 	case answer == C.SQUALL_NO_COUNT:
@@ -73,11 +73,8 @@ func (r *Router) Picture() (string, error) {
 
 // text is the text that a call writes, as those of [written] do.
 func (r *Router) text(write func(at *C.squall_router, out *C.uint8_t, room C.size_t) C.size_t) (string, error) {
-	bytes, err := []byte(nil), error(ErrClosed)
-	r.use(func(at *C.squall_router) {
-		bytes, err = written(ErrClosed, func(out *C.uint8_t, room C.size_t) C.size_t { return write(at, out, room) })
-	})
-	return string(bytes), err
+	text, err := writtenBy(r.handle(), ErrClosed, write)
+	return string(text), err
 }
 
 // pairing is held while a call locks two views, so that no two calls wait for a view of each other: a close

@@ -6,7 +6,6 @@ import "C"
 import (
 	"runtime"
 	"sync"
-	"unsafe"
 )
 
 // View is what a router said at one moment. It stays the same, whatever the router takes later, and also
@@ -22,34 +21,15 @@ type View struct {
 	spare   *C.squall_view
 }
 
-// openHandle opens a view of the library in a room of its own.
-func openHandle(open func(room *C.squall_view)) (*C.squall_view, error) {
-	room := (*C.squall_view)(C.calloc(1, C.squall_view_size()))
-	if room == nil {
-		return nil, ErrNoMemory
-	}
-	open(room)
-	if err := errorOf(uint32(C.squall_view_status(room)), C.SQUALL_NO_PLACE); err != nil {
-		closeHandle(room)
-		return nil, err
-	}
-	return room, nil
-}
-
-func closeHandle(at *C.squall_view) {
-	C.squall_view_close(at)
-	C.free(unsafe.Pointer(at))
-}
-
 // openView opens a view and its spare one.
 func openView(open func(room *C.squall_view)) (*View, error) {
-	at, err := openHandle(open)
+	at, err := views.open(open)
 	if err != nil {
 		return nil, err
 	}
-	spare, err := openHandle(func(room *C.squall_view) { C.squall_view_again(at, room) })
+	spare, err := views.open(func(room *C.squall_view) { C.squall_view_again(at, room) })
 	if err != nil {
-		closeHandle(at)
+		views.end(at)
 		return nil, err
 	}
 	view := &View{at: at, spare: spare}
@@ -89,8 +69,8 @@ func (v *View) Close() error {
 	if v.at == nil {
 		return nil
 	}
-	closeHandle(v.at)
-	closeHandle(v.spare)
+	views.end(v.at)
+	views.end(v.spare)
 	v.at, v.spare = nil, nil
 	runtime.SetFinalizer(v, nil)
 	return nil
@@ -127,17 +107,26 @@ func (v *View) Route(key Rank) (Part, bool) {
 // and returns how many. Each is what [View.Route] answers: [Nowhere] if the rank is no key's. If the view
 // is closed, nothing is written, and the count is 0. It makes one call into C for all keys.
 func (v *View) Routes(keys []Rank, parts []Part) int {
-	if len(keys) == 0 || len(parts) == 0 {
+	return eachKey(v, keys, parts, func(at *C.squall_view, ranks *C.uint64_t, count C.size_t, out *Part, room C.size_t) C.size_t {
+		return C.squall_view_routes(at, ranks, count, (*C.uint32_t)(out), room)
+	})
+}
+
+// answering is a call that answers many keys: it writes what it answers, and says of how many.
+type answering[Answer any] func(at *C.squall_view, ranks *C.uint64_t, count C.size_t, out *Answer, room C.size_t) C.size_t
+
+// eachKey writes what a call answers of each key to the same index of `answers`, and returns of how many. No call is
+// made if there are no keys, no places for answers, or if the view is closed.
+func eachKey[Answer any](v *View, keys []Rank, answers []Answer, call answering[Answer]) int {
+	if len(keys) == 0 || len(answers) == 0 {
 		return 0
 	}
 	at := v.read()
 	if at == nil {
 		return 0
 	}
-	ranks, out := (*C.uint64_t)(unsafe.Pointer(&keys[0])), (*C.uint32_t)(unsafe.Pointer(&parts[0]))
-	count := C.squall_view_routes(at, ranks, C.size_t(len(keys)), out, C.size_t(len(parts)))
-	v.done()
-	return int(count)
+	defer v.done()
+	return int(call(at, (*C.uint64_t)(&keys[0]), C.size_t(len(keys)), &answers[0], C.size_t(len(answers))))
 }
 
 // Legs are the legs of the keys from lo on, below hi, by rising key. There are none if there are no
