@@ -3,8 +3,7 @@
 from __future__ import annotations
 
 import ctypes
-from types import TracebackType
-from typing import TYPE_CHECKING, Any, Dict, Optional, Protocol, Type, Union, cast
+from typing import TYPE_CHECKING, Any, Dict, Optional, Protocol, Union, cast
 
 if TYPE_CHECKING:
     from _typeshed import ReadableBuffer, WriteableBuffer
@@ -80,12 +79,7 @@ class Lent:
     def __enter__(self) -> Lent:
         return self
 
-    def __exit__(
-        self,
-        kind: Optional[Type[BaseException]],
-        error: Optional[BaseException],
-        trace: Optional[TracebackType],
-    ) -> None:
+    def __exit__(self, *_raised: object) -> None:
         _release(self._buffer)
 
 

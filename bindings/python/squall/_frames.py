@@ -8,6 +8,7 @@ from typing import TYPE_CHECKING, Any, Callable, ClassVar, List, Optional, Tuple
 from ._buffers import Lent
 from ._fork import REFUSED, refuse
 from ._handle import Handle, T
+from ._library import FrameCalls
 from ._room import Room
 from ._status import check
 from .keys import wide
@@ -31,16 +32,7 @@ class Hears(Handle):
 
     __slots__ = ("_gathered",)
 
-    # Functions of C, which are no methods. Of two that do the same, the second keeps Python's lock.
-    _call_feed: ClassVar[Any]
-    _call_feed_kept: ClassVar[Any]
-    _call_hear: ClassVar[Any]
-    _call_hear_kept: ClassVar[Any]
-    _call_waiting: ClassVar[Any]
-    _call_board: ClassVar[Any]
-    _call_digest: ClassVar[Any]
-    _call_repair: ClassVar[Any]
-    _call_frame: ClassVar[Any]
+    _calls: ClassVar[FrameCalls]
 
     _gathered: object
 
@@ -57,7 +49,7 @@ class Hears(Handle):
         if it would tell more than `Router.limit` allows. The next frame may come then. Raises
         `NoMemory` and `ClosedError`.
         """
-        self._take(frame, self._call_hear, self._call_hear_kept)
+        self._take(frame, self._calls.hear, self._calls.hear_kept)
 
     def feed(self, data: ReadableBuffer) -> None:
         """Takes the next bytes of a stream of frames, which may be cut anywhere.
@@ -71,7 +63,7 @@ class Hears(Handle):
         too. Raises `NoMemory`, and of a router `FullError` if it would tell more than
         `Router.limit` allows: after both the same bytes may be fed again. Raises `ClosedError`.
         """
-        self._take(data, self._call_feed, self._call_feed_kept)
+        self._take(data, self._calls.feed, self._calls.feed_kept)
 
     @property
     def waiting(self) -> int:
@@ -80,8 +72,7 @@ class Hears(Handle):
         It is 0 if none do, or if a `FrameError` has ended the stream. If it is above 0 when the
         stream ends, the stream was cut within a frame. Raises `ClosedError`.
         """
-        count: int = self._ask(self._call_waiting)
-        return count
+        return self._ask(self._calls.waiting)
 
     def _take(
         self,
@@ -106,7 +97,7 @@ class Hears(Handle):
         Raises `TooLongError` if a single report needs a longer frame, `NumberError` if the limit
         has no 64 bits, `NoMemory` and `ClosedError`.
         """
-        return self._frames(self._call_board, limit)
+        return self._frames(self._calls.board, limit)
 
     def digest(self, *, limit: Optional[int] = None) -> bytes:
         """The frame of a digest of what `board` has.
@@ -115,7 +106,7 @@ class Hears(Handle):
         digest has more rows than a frame holds, or more bytes than `limit`: it is not cut. Raises
         `NumberError` as `board` does, `NoMemory` and `ClosedError`.
         """
-        return self._frames(self._call_digest, limit)[0]
+        return self._frames(self._calls.digest, limit)[0]
 
     def repair(self, *, limit: Optional[int] = None) -> List[bytes]:
         """The frames of what the digest that was heard last does not show; none if it shows all.
@@ -123,7 +114,7 @@ class Hears(Handle):
         They have at most `limit` bytes each. Raises `NoDigestError` if none was heard, and all that
         `board` raises.
         """
-        return self._frames(self._call_repair, limit)
+        return self._frames(self._calls.repair, limit)
 
     def _frames(self, gather: Callable[[Any, int], int], limit: Optional[int]) -> List[bytes]:
         most = limit_of(limit)
@@ -139,11 +130,11 @@ class Hears(Handle):
     def _next_frame(self, room: Room) -> bytes:
         """The next frame that waits, or no bytes."""
         out = ctypes.create_string_buffer(_SMALL)
-        size = self._call_frame(room, out, len(out))
+        size = self._calls.frame(room, out, len(out))
         # Once more at most, if no signal handler puts a larger frame there in between.
         while size > len(out):
             out = ctypes.create_string_buffer(size)
-            size = self._call_frame(room, out, len(out))
+            size = self._calls.frame(room, out, len(out))
         return ctypes.string_at(out, size)
 
     def _undisturbed(self, steps: Callable[[Any], T]) -> T:

@@ -9,7 +9,7 @@ from __future__ import annotations
 
 import ctypes
 import os
-from typing import Any, Callable, Tuple, Union
+from typing import Any, Callable, NamedTuple, Tuple, Union
 
 from ._room import (
     AnswerRecord,
@@ -98,6 +98,38 @@ def _slow(name: str, answer: Any, *takes: Any) -> Any:
     return _bind(_long, name, answer, takes)
 
 
+class FrameCalls(NamedTuple):
+    """The functions by which a router, a partition or a leader takes frames, and makes its own."""
+
+    feed: Callable[[Any, Bytes, int], int]
+    hear: Callable[[Any, Bytes, int], int]
+    #: The same with Python's lock. Bytes of Python can't change, but those of a bytearray can while
+    #: another thread runs, which the library must not see.
+    feed_kept: Callable[[Any, Bytes, int], int]
+    hear_kept: Callable[[Any, Bytes, int], int]
+    waiting: Callable[[Any], int]
+    board: Callable[[Any, int], int]
+    digest: Callable[[Any, int], int]
+    repair: Callable[[Any, int], int]
+    frame: Callable[[Any, Out, int], int]
+
+
+def _frames(kind: str, room: Any) -> FrameCalls:
+    """The functions of handles of this kind, which live in such a room."""
+    taking, gathering = (_U32, room, _ADDRESS, _SIZE), (_U32, room, _SIZE)
+    return FrameCalls(
+        feed=_slow(f"{kind}_feed", *taking),
+        hear=_slow(f"{kind}_hear", *taking),
+        feed_kept=_quick(f"{kind}_feed", *taking),
+        hear_kept=_quick(f"{kind}_hear", *taking),
+        waiting=_quick(f"{kind}_waiting", _SIZE, room),
+        board=_slow(f"{kind}_gather_board", *gathering),
+        digest=_slow(f"{kind}_gather_digest", *gathering),
+        repair=_slow(f"{kind}_gather_repair", *gathering),
+        frame=_quick(f"{kind}_frame", _SIZE, room, _ADDRESS, _SIZE),
+    )
+
+
 # Keys of rows.
 
 key_of: Callable[[Bytes, int], int] = _quick("key_of", _U64, _ADDRESS, _SIZE)
@@ -120,18 +152,7 @@ router_opened = _quick("router_opened", _U32, _ROUTER, _U32, _U32)
 router_issued: Callable[[RouterRoom, int, bytes, int], int]
 router_issued = _slow("router_issued", _U32, _ROUTER, _U32, _ADDRESS, _SIZE)
 
-# The two kinds of each: bytes of Python can't change, but those of a bytearray can while another
-# thread runs, which the library must not see.
-router_feed: Callable[[RouterRoom, Bytes, int], int]
-router_feed = _slow("router_feed", _U32, _ROUTER, _ADDRESS, _SIZE)
-router_feed_kept: Callable[[RouterRoom, Bytes, int], int]
-router_feed_kept = _quick("router_feed", _U32, _ROUTER, _ADDRESS, _SIZE)
-router_hear: Callable[[RouterRoom, Bytes, int], int]
-router_hear = _slow("router_hear", _U32, _ROUTER, _ADDRESS, _SIZE)
-router_hear_kept: Callable[[RouterRoom, Bytes, int], int]
-router_hear_kept = _quick("router_hear", _U32, _ROUTER, _ADDRESS, _SIZE)
-
-router_waiting: Callable[[RouterRoom], int] = _quick("router_waiting", _SIZE, _ROUTER)
+router_frames: FrameCalls = _frames("router", _ROUTER)
 
 router_limit: Callable[[RouterRoom, int, int, int, int], int]
 router_limit = _quick("router_limit", _U32, _ROUTER, _U64, _U64, _U64, _U64)
@@ -141,15 +162,6 @@ router_route: Callable[[RouterRoom, int], int] = _quick("router_route", _U32, _R
 router_legs: Callable[[RouterRoom, int, int, Out, int], int]
 router_legs = _slow("router_legs", _SIZE, _ROUTER, _U64, _U64, _LEGS, _SIZE)
 router_number: Callable[[RouterRoom], int] = _quick("router_number", _U32, _ROUTER)
-
-router_gather_board: Callable[[RouterRoom, int], int]
-router_gather_board = _slow("router_gather_board", _U32, _ROUTER, _SIZE)
-router_gather_digest: Callable[[RouterRoom, int], int]
-router_gather_digest = _slow("router_gather_digest", _U32, _ROUTER, _SIZE)
-router_gather_repair: Callable[[RouterRoom, int], int]
-router_gather_repair = _slow("router_gather_repair", _U32, _ROUTER, _SIZE)
-router_frame: Callable[[RouterRoom, Out, int], int]
-router_frame = _quick("router_frame", _SIZE, _ROUTER, _ADDRESS, _SIZE)
 
 router_clashed: Callable[[RouterRoom], int] = _slow("router_clashed", _SIZE, _ROUTER)
 router_counts: Callable[[RouterRoom, CountsRecord, int], int]
@@ -241,15 +253,7 @@ part_close: Callable[[PartRoom], None] = _slow("part_close", None, _PART)
 part_open: Callable[[int, CourseRoom, PartRoom], None]
 part_open = _slow("part_open", None, _U32, _COURSE, _PART)
 part_status: Callable[[PartRoom], int] = _quick("part_status", _U32, _PART)
-part_feed: Callable[[PartRoom, Bytes, int], int]
-part_feed = _slow("part_feed", _U32, _PART, _ADDRESS, _SIZE)
-part_feed_kept: Callable[[PartRoom, Bytes, int], int]
-part_feed_kept = _quick("part_feed", _U32, _PART, _ADDRESS, _SIZE)
-part_waiting: Callable[[PartRoom], int] = _quick("part_waiting", _SIZE, _PART)
-part_hear: Callable[[PartRoom, Bytes, int], int]
-part_hear = _slow("part_hear", _U32, _PART, _ADDRESS, _SIZE)
-part_hear_kept: Callable[[PartRoom, Bytes, int], int]
-part_hear_kept = _quick("part_hear", _U32, _PART, _ADDRESS, _SIZE)
+part_frames: FrameCalls = _frames("part", _PART)
 part_give: Callable[[PartRoom, int, ChunkRecord], int]
 part_give = _slow("part_give", _U32, _PART, _U64, _CHUNK)
 part_give_at: Callable[[PartRoom, int, ChunkRecord], int]
@@ -269,14 +273,6 @@ part_given: Callable[[PartRoom, int, int, Out, int], int]
 part_given = _slow("part_given", _SIZE, _PART, _U32, _SIZE, _SPANS, _SIZE)
 part_loaded: Callable[[PartRoom, int, int, Out, int], int]
 part_loaded = _slow("part_loaded", _SIZE, _PART, _U32, _SIZE, _SPANS, _SIZE)
-part_gather_board: Callable[[PartRoom, int], int]
-part_gather_board = _slow("part_gather_board", _U32, _PART, _SIZE)
-part_gather_digest: Callable[[PartRoom, int], int]
-part_gather_digest = _slow("part_gather_digest", _U32, _PART, _SIZE)
-part_gather_repair: Callable[[PartRoom, int], int]
-part_gather_repair = _slow("part_gather_repair", _U32, _PART, _SIZE)
-part_frame: Callable[[PartRoom, Out, int], int]
-part_frame = _quick("part_frame", _SIZE, _PART, _ADDRESS, _SIZE)
 
 # Leaders.
 
@@ -288,15 +284,7 @@ leader_resume: Callable[[CourseRoom, LeaderRoom], None]
 leader_resume = _slow("leader_resume", None, _COURSE, _LEADER)
 leader_status: Callable[[LeaderRoom], int] = _quick("leader_status", _U32, _LEADER)
 leader_fault_at: Callable[[LeaderRoom], int] = _quick("leader_fault_at", _U64, _LEADER)
-leader_feed: Callable[[LeaderRoom, Bytes, int], int]
-leader_feed = _slow("leader_feed", _U32, _LEADER, _ADDRESS, _SIZE)
-leader_feed_kept: Callable[[LeaderRoom, Bytes, int], int]
-leader_feed_kept = _quick("leader_feed", _U32, _LEADER, _ADDRESS, _SIZE)
-leader_waiting: Callable[[LeaderRoom], int] = _quick("leader_waiting", _SIZE, _LEADER)
-leader_hear: Callable[[LeaderRoom, Bytes, int], int]
-leader_hear = _slow("leader_hear", _U32, _LEADER, _ADDRESS, _SIZE)
-leader_hear_kept: Callable[[LeaderRoom, Bytes, int], int]
-leader_hear_kept = _quick("leader_hear", _U32, _LEADER, _ADDRESS, _SIZE)
+leader_frames: FrameCalls = _frames("leader", _LEADER)
 leader_begin: Callable[[LeaderRoom, bytes, int], int]
 leader_begin = _slow("leader_begin", _U32, _LEADER, _ADDRESS, _SIZE)
 leader_begin_from: Callable[[LeaderRoom, bytes, int, bytes, int], int]
@@ -306,14 +294,6 @@ leader_course = _quick("leader_course", None, _LEADER, _COURSE)
 leader_open_next: Callable[[LeaderRoom, Out, int], int]
 leader_open_next = _slow("leader_open_next", _U32, _LEADER, _ADDRESS, _SIZE)
 leader_finished: Callable[[LeaderRoom], int] = _slow("leader_finished", _U32, _LEADER)
-leader_gather_board: Callable[[LeaderRoom, int], int]
-leader_gather_board = _slow("leader_gather_board", _U32, _LEADER, _SIZE)
-leader_gather_digest: Callable[[LeaderRoom, int], int]
-leader_gather_digest = _slow("leader_gather_digest", _U32, _LEADER, _SIZE)
-leader_gather_repair: Callable[[LeaderRoom, int], int]
-leader_gather_repair = _slow("leader_gather_repair", _U32, _LEADER, _SIZE)
-leader_frame: Callable[[LeaderRoom, Out, int], int]
-leader_frame = _quick("leader_frame", _SIZE, _LEADER, _ADDRESS, _SIZE)
 
 RouterRoom.prepare(router_size(), router_close)
 ViewRoom.prepare(view_size(), view_close)

@@ -3,7 +3,7 @@
 from __future__ import annotations
 
 import ctypes
-from typing import Any, ClassVar, Type, TypeVar
+from typing import Any, ClassVar, List, Tuple, Type, TypeVar
 
 from ._fork import REFUSED
 
@@ -67,82 +67,62 @@ class LeaderRoom(Room):
     """A room for a leader."""
 
 
-class LegRecord(ctypes.Structure):
-    """A leg, as `squall.h` has it."""
-
-    _fields_ = [("lo", ctypes.c_uint64), ("hi", ctypes.c_uint64), ("part", ctypes.c_uint32)]
-    lo: int
-    hi: int
-    part: int
-
-
-class MoveRecord(ctypes.Structure):
-    """A move, as `squall.h` has it."""
-
-    _fields_ = [
-        ("lo", ctypes.c_uint64),
-        ("hi", ctypes.c_uint64),
-        ("source", ctypes.c_uint32),
-        ("dest", ctypes.c_uint32),
-        ("sub", ctypes.c_uint32),
-    ]
-    lo: int
-    hi: int
-    source: int
-    dest: int
-    sub: int
+def _fields(size: Type[Any], *names: str) -> List[Tuple[str, Type[Any]]]:
+    """The fields of a record with these names, all of them of one type."""
+    return [(name, size) for name in names]
 
 
 class SpanRecord(ctypes.Structure):
     """A span, as `squall.h` has it."""
 
-    _fields_ = [("lo", ctypes.c_uint64), ("hi", ctypes.c_uint64)]
+    _fields_ = _fields(ctypes.c_uint64, "lo", "hi")
     lo: int
     hi: int
 
 
-class CountsRecord(ctypes.Structure):
-    """How much a router heard, as `squall.h` has it."""
-
-    _fields_ = [
-        ("cells", ctypes.c_uint64),
-        ("spans", ctypes.c_uint64),
-        ("opened", ctypes.c_uint64),
-        ("issues", ctypes.c_uint64),
-    ]
-    cells: int
-    spans: int
-    opened: int
-    issues: int
+# Records that begin as that of a span does have its fields.
 
 
-class ChunkRecord(ctypes.Structure):
+class LegRecord(SpanRecord):
+    """A leg, as `squall.h` has it."""
+
+    _fields_ = _fields(ctypes.c_uint32, "part")
+    part: int
+
+
+class MoveRecord(SpanRecord):
+    """A move, as `squall.h` has it."""
+
+    _fields_ = _fields(ctypes.c_uint32, "source", "dest", "sub")
+    source: int
+    dest: int
+    sub: int
+
+
+class ChunkRecord(SpanRecord):
     """A chunk, as `squall.h` has it."""
 
-    _fields_ = [
-        ("lo", ctypes.c_uint64),
-        ("hi", ctypes.c_uint64),
-        ("number", ctypes.c_uint32),
-        ("sub", ctypes.c_uint32),
-        ("source", ctypes.c_uint32),
-        ("dest", ctypes.c_uint32),
-    ]
-    lo: int
-    hi: int
+    _fields_ = _fields(ctypes.c_uint32, "number", "sub", "source", "dest")
     number: int
     sub: int
     source: int
     dest: int
 
 
+class CountsRecord(ctypes.Structure):
+    """How much a router heard, as `squall.h` has it."""
+
+    _fields_ = _fields(ctypes.c_uint64, "cells", "spans", "opened", "issues")
+    cells: int
+    spans: int
+    opened: int
+    issues: int
+
+
 class AnswerRecord(ctypes.Structure):
     """The reply of a partition, as `squall.h` has it."""
 
-    _fields_ = [
-        ("reply", ctypes.c_uint32),
-        ("part", ctypes.c_uint32),
-        ("number", ctypes.c_uint32),
-    ]
+    _fields_ = _fields(ctypes.c_uint32, "reply", "part", "number")
     reply: int
     part: int
     number: int

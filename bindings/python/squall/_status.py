@@ -4,35 +4,9 @@ from __future__ import annotations
 
 from typing import Dict, Optional, Type
 
+from . import errors
 from ._library import message
-from .errors import (
-    ClosedError,
-    EndedError,
-    FrameError,
-    FrameFault,
-    FullError,
-    GivenError,
-    IdleError,
-    NoDigestError,
-    NoMemory,
-    NoMoreError,
-    NoNumberError,
-    NotAllError,
-    NotHeldError,
-    NothingDueError,
-    NothingLeftError,
-    NotOpenError,
-    NotOutgoingError,
-    NumberError,
-    PlanError,
-    PlanFault,
-    RunningError,
-    SquallError,
-    StrangerError,
-    StreamError,
-    TooLongError,
-    ZeroMaxError,
-)
+from .errors import FrameError, FrameFault, NotDoneError, PlanError, PlanFault, SquallError
 from .keys import Rank
 
 #: No place of a plan's fault.
@@ -40,28 +14,14 @@ NO_PLACE = 0xFFFFFFFFFFFFFFFF
 #: How far the statuses of a new plan's faults are above those of an old one's.
 _NEW = 20
 
+#: The classes that take nothing but a text, by the status that each has.
 _SIMPLE: Dict[int, Type[SquallError]] = {
-    1: NoMemory,
-    2: NumberError,
-    3: ClosedError,
-    4: StreamError,
-    5: TooLongError,
-    6: NoDigestError,
-    7: FullError,
-    71: NotOpenError,
-    72: NothingLeftError,
-    73: ZeroMaxError,
-    74: NotOutgoingError,
-    75: GivenError,
-    76: NotHeldError,
-    77: StrangerError,
-    78: NotAllError,
-    79: NothingDueError,
-    81: EndedError,
-    91: RunningError,
-    92: NoNumberError,
-    93: IdleError,
-    95: NoMoreError,
+    it.status: it
+    for it in vars(errors).values()
+    if isinstance(it, type)
+    and issubclass(it, SquallError)
+    and it.status is not None
+    and it is not NotDoneError
 }
 _BOUNDS = (PlanFault.OVERLAP, PlanFault.GAP)
 

@@ -4,7 +4,7 @@ from __future__ import annotations
 
 import operator
 import re
-from typing import TYPE_CHECKING, NamedTuple, Tuple
+from typing import TYPE_CHECKING, Callable, NamedTuple, Tuple
 
 from . import _library as lib
 from ._buffers import Lent
@@ -19,34 +19,27 @@ _RANK = 0xFFFFFFFFFFFFFFFF
 _PAIR = re.compile("([0-9]{1,10}):([0-9]{1,10})")
 
 
-def word(number: int) -> int:
-    """A number of 32 bits: the library looks whether it is within its limits.
+def _whole(most: int, name: str = "") -> Callable[[int], int]:
+    """A check that a number is from 0 to `most`, which returns it.
 
-    Raises `NumberError` if it has no 32 bits, and `TypeError` if it is no whole number.
+    It raises `NumberError` if it is not, and `TypeError` if it is no whole number.
     """
-    number = operator.index(number)
-    if not 0 <= number <= _WORD:
-        raise NumberError(f"{number} is not from 0 to {_WORD}")
-    return number
+
+    def check(number: int) -> int:
+        number = operator.index(number)
+        if not 0 <= number <= most:
+            raise NumberError(f"{name}{number} is not from 0 to {most}")
+        return number
+
+    return check
 
 
-def rank(number: int) -> int:
-    """A number of 64 bits: the library looks whether it is the rank of a key.
-
-    Raises `NumberError` if it has no 64 bits, and `TypeError` if it is no whole number.
-    """
-    number = operator.index(number)
-    if not 0 <= number <= _RANK:
-        raise NumberError(f"the rank {number} is not from 0 to {_RANK}")
-    return number
-
-
-def wide(number: int) -> int:
-    """A number of 64 bits. Raises `NumberError` if it has none, and `TypeError` as `word` does."""
-    number = operator.index(number)
-    if not 0 <= number <= _RANK:
-        raise NumberError(f"{number} is not from 0 to {_RANK}")
-    return number
+#: A number of 32 bits: the library looks whether it is within its limits.
+word = _whole(_WORD)
+#: A number of 64 bits: the library looks whether it is the rank of a key.
+rank = _whole(_RANK, "the rank ")
+#: A number of 64 bits.
+wide = _whole(_RANK)
 
 
 class Rank(int):

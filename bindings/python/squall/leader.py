@@ -45,15 +45,7 @@ class Leader(Hears):
 
     _kind = LeaderRoom
     _call_status = lib.leader_status
-    _call_feed = lib.leader_feed
-    _call_feed_kept = lib.leader_feed_kept
-    _call_hear = lib.leader_hear
-    _call_hear_kept = lib.leader_hear_kept
-    _call_waiting = lib.leader_waiting
-    _call_board = lib.leader_gather_board
-    _call_digest = lib.leader_gather_digest
-    _call_repair = lib.leader_gather_repair
-    _call_frame = lib.leader_frame
+    _calls = lib.leader_frames
 
     def __init__(self, plan: PlanText, last: int = 0) -> None:
         """A leader of keys that lie as the plan says, with no course begun.

@@ -84,15 +84,7 @@ class Part(Hears):
 
     _kind = PartRoom
     _call_status = lib.part_status
-    _call_feed = lib.part_feed
-    _call_feed_kept = lib.part_feed_kept
-    _call_hear = lib.part_hear
-    _call_hear_kept = lib.part_hear_kept
-    _call_waiting = lib.part_waiting
-    _call_board = lib.part_gather_board
-    _call_digest = lib.part_gather_digest
-    _call_repair = lib.part_gather_repair
-    _call_frame = lib.part_frame
+    _calls = lib.part_frames
 
     def __init__(self, part: int, course: Course) -> None:
         """The partition `part` with the keys that the old plan of the course gives it.

@@ -60,15 +60,7 @@ class Router(Routes, Hears):
     _call_legs = lib.router_legs
     _call_number = lib.router_number
     _call_errand = lib.errand_start
-    _call_feed = lib.router_feed
-    _call_feed_kept = lib.router_feed_kept
-    _call_hear = lib.router_hear
-    _call_hear_kept = lib.router_hear_kept
-    _call_waiting = lib.router_waiting
-    _call_board = lib.router_gather_board
-    _call_digest = lib.router_gather_digest
-    _call_repair = lib.router_gather_repair
-    _call_frame = lib.router_frame
+    _calls = lib.router_frames
 
     def __init__(self, number: int, old: PlanText, new: PlanText) -> None:
         """A router of the course `number` from the plan `old` to the plan `new`.

@@ -35,12 +35,8 @@ CALLS: List[Callable[[Router], object]] = [
     lambda it: it.view(),
 ]
 
-
-PART_CALLS: List[Callable[[Part], object]] = [
-    lambda it: it.give(7),
-    lambda it: it.give_at(key(7)),
-    lambda it: it.fresh(Chunk(key(2), key(3), 1, 0, 1, 3)),
-    lambda it: it.load(Chunk(key(2), key(3), 1, 0, 1, 3)),
+# Of a partition or a leader.
+FRAME_CALLS: List[Callable[[Any], object]] = [
     lambda it: it.feed(LOAD_FRAME),
     lambda it: it.feed(bytearray(LOAD_FRAME)),
     lambda it: it.hear(LOAD_FRAME),
@@ -50,16 +46,18 @@ PART_CALLS: List[Callable[[Part], object]] = [
     lambda it: it.repair(),
 ]
 
+PART_CALLS: List[Callable[[Part], object]] = [
+    lambda it: it.give(7),
+    lambda it: it.give_at(key(7)),
+    lambda it: it.fresh(Chunk(key(2), key(3), 1, 0, 1, 3)),
+    lambda it: it.load(Chunk(key(2), key(3), 1, 0, 1, 3)),
+    *FRAME_CALLS,
+]
+
 LEADER_CALLS: List[Callable[[Leader], object]] = [
     lambda it: it.begin(OLD),
     lambda it: it.begin_from(NEW, OLD),
-    lambda it: it.feed(LOAD_FRAME),
-    lambda it: it.feed(bytearray(LOAD_FRAME)),
-    lambda it: it.hear(LOAD_FRAME),
-    lambda it: it.hear(bytearray(LOAD_FRAME)),
-    lambda it: it.board(),
-    lambda it: it.digest(),
-    lambda it: it.repair(),
+    *FRAME_CALLS,
 ]
 
 

@@ -16,7 +16,7 @@ from squall._room import CourseRoom
 
 from .test_courses import MOVES, striped
 from .test_handles import COURSE_CALLS, Count
-from .test_threads import together
+from .test_threads import Watch, together
 from .worked import FIVE, LOAD_FRAME, NEW, OLD, fresh, key, wide_plan
 
 
@@ -148,20 +148,10 @@ class Threads(unittest.TestCase):
         together(*[partial(ask, it) for it in COURSE_CALLS.values()])
 
     def test_calls_of_one_course_wait_for_each_other(self) -> None:
-        running, most, inner = [0], [0], lib.course_receivers
-
-        def watched(*words: Any) -> Any:
-            running[0] += 1
-            most[0] = max(most[0], running[0])
-            time.sleep(0.001)
-            answer = inner(*words)
-            running[0] -= 1
-            return answer
-
-        course = Course(1, OLD, NEW)
-        with mock.patch.object(lib, "course_receivers", watched):
+        course, watch = Course(1, OLD, NEW), Watch()
+        with mock.patch.object(lib, "course_receivers", watch.of(lib.course_receivers)):
             together(*[lambda: course.receivers(0)] * 6)
-        self.assertEqual((most, running), ([1], [0]))
+        self.assertEqual((watch.most, watch.running), (1, 0))
 
     def test_closing_in_the_midst_of_calls(self) -> None:
         for _ in range(3):

@@ -8,25 +8,13 @@ import subprocess
 import sys
 import unittest
 from array import array
+from importlib import import_module
 from pathlib import Path
 from types import ModuleType
 from typing import Any, Dict, List
 
 import squall
-from squall import (
-    _frames,
-    _routes,
-    course,
-    errand,
-    errors,
-    frame,
-    keys,
-    leader,
-    part,
-    plan,
-    router,
-    view,
-)
+from squall import errors
 
 from .worked import fresh
 
@@ -35,21 +23,8 @@ C_EXAMPLES = PYTHON.parent / "c" / "examples"
 PLANS = PYTHON.parent.parent / "examples"
 
 HALVES = '{"plan":[{"part":1,"from":[0,0],"to":[5,0]},{"part":2,"from":[5,0],"to":"end"}]}'
-MODULES: List[ModuleType] = [
-    squall,
-    _frames,
-    _routes,
-    course,
-    errand,
-    errors,
-    frame,
-    keys,
-    leader,
-    part,
-    plan,
-    router,
-    view,
-]
+NAMES = "_frames _routes course errand errors frame keys leader part plan router view".split()
+MODULES: List[ModuleType] = [squall, *(import_module(f"squall.{it}") for it in NAMES)]
 
 
 def names() -> Dict[str, Any]:

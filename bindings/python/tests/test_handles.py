@@ -77,6 +77,19 @@ ERRAND_CALLS: Dict[str, Callable[[Errand], object]] = {
     "number": lambda it: it.number,
     "heed": lambda it: it.heed(Reply.HELD),
 }
+# Of a partition or a leader that has heard a digest. None raises if open.
+FRAME_CALLS: Dict[str, Callable[[Any], object]] = {
+    "feed": lambda it: it.feed(OPENING_FRAME),
+    "feed, kept": lambda it: it.feed(memoryview(OPENING_FRAME)),
+    "feed, bytearray": lambda it: it.feed(bytearray(OPENING_FRAME)),
+    "waiting": lambda it: it.waiting,
+    "hear": lambda it: it.hear(OPENING_FRAME),
+    "hear, kept": lambda it: it.hear(bytearray(OPENING_FRAME)),
+    "hear, memoryview": lambda it: it.hear(memoryview(OPENING_FRAME)),
+    "board": lambda it: it.board(),
+    "digest": lambda it: it.digest(),
+    "repair": lambda it: it.repair(),
+}
 # Of partition 3, which has heard that sub-plan 0 is opened, and a digest. None raises if open.
 PART_CALLS: Dict[str, Callable[[Part], object]] = {
     "give": lambda it: it.give(1),
@@ -88,14 +101,7 @@ PART_CALLS: Dict[str, Callable[[Part], object]] = {
     "held": lambda it: it.held(),
     "given": lambda it: it.given(1),
     "loaded": lambda it: it.loaded(1),
-    "feed": lambda it: it.feed(OPENING_FRAME),
-    "feed, kept": lambda it: it.feed(memoryview(OPENING_FRAME)),
-    "waiting": lambda it: it.waiting,
-    "hear": lambda it: it.hear(OPENING_FRAME),
-    "hear, kept": lambda it: it.hear(bytearray(OPENING_FRAME)),
-    "board": lambda it: it.board(),
-    "digest": lambda it: it.digest(),
-    "repair": lambda it: it.repair(),
+    **FRAME_CALLS,
     "course_closed": lambda it: it.course_closed(1),
     "close_course": lambda it: it.close_course(),
 }
@@ -106,14 +112,7 @@ LEADER_CALLS: Dict[str, Callable[[Leader], object]] = {
     "course": lambda it: it.course(),
     "open_next": lambda it: it.open_next(),
     "finished": lambda it: it.finished,
-    "feed": lambda it: it.feed(OPENING_FRAME),
-    "feed, kept": lambda it: it.feed(bytearray(OPENING_FRAME)),
-    "waiting": lambda it: it.waiting,
-    "hear": lambda it: it.hear(OPENING_FRAME),
-    "hear, kept": lambda it: it.hear(memoryview(OPENING_FRAME)),
-    "board": lambda it: it.board(),
-    "digest": lambda it: it.digest(),
-    "repair": lambda it: it.repair(),
+    **FRAME_CALLS,
 }
 
 
@@ -283,24 +282,23 @@ class Interrupted(unittest.TestCase):
         """What the call answers if something happens before each of its calls of C."""
         done: List[int] = []
 
-        def interrupt(owner: Any, name: str) -> Any:
-            inner = getattr(owner, name)
-
-            def interrupted(*words: Any) -> Any:
+        def interrupted(inner: Callable[..., Any]) -> Callable[..., Any]:
+            def run(*words: Any) -> Any:
                 if not done:
                     done.append(1)
                     what()
                 return inner(*words)
 
-            # A function of a class would be a method.
-            fake: Any = interrupted if owner is lib else staticmethod(interrupted)
-            return mock.patch.object(owner, name, fake)
+            return run
 
+        kinds: List[Any] = [Router, Part, Leader]
         with ExitStack() as patches:
-            for kind in [Router, Part, Leader]:
-                patches.enter_context(interrupt(kind, "_call_frame"))
+            for kind in kinds:
+                calls = kind._calls._replace(frame=interrupted(kind._calls.frame))
+                patches.enter_context(mock.patch.object(kind, "_calls", calls))
             for name in ["router_fault_at", "leader_fault_at"]:
-                patches.enter_context(interrupt(lib, name))
+                fault_at = interrupted(getattr(lib, name))
+                patches.enter_context(mock.patch.object(lib, name, fault_at))
             return call()
 
     def test_frames_that_a_signal_handler_takes(self) -> None:
@@ -340,7 +338,7 @@ class Interrupted(unittest.TestCase):
                 ctypes.memmove(out, frame, size)
             return size
 
-        with mock.patch.object(Router, "_call_frame", staticmethod(answer)):
+        with mock.patch.object(Router, "_calls", Router._calls._replace(frame=answer)):
             self.assertEqual(moved().board(), [frame])
 
     def test_a_report_in_between(self) -> None:

@@ -27,7 +27,7 @@ from squall import (
 
 from .test_courses import BACK, MOVES, striped
 from .test_plans import NO_PLANS
-from .worked import LOAD_FRAME, NEW, OLD, key
+from .worked import LOAD_FRAME, NEW, OLD, key, repair
 
 
 def begun(last: int = 0) -> Leader:
@@ -247,9 +247,7 @@ class Frames(unittest.TestCase):
         leader.open_next()
         with self.assertRaises(NoDigestError):
             leader.repair()
-        leader.hear(standby.digest())
-        for sent in leader.repair():
-            standby.hear(sent)
+        repair(leader, standby)
         self.assertEqual(standby.board(), leader.board())
         leader.hear(standby.digest())
         self.assertEqual(leader.repair(), [])

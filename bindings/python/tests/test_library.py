@@ -15,20 +15,6 @@ import squall
 from squall import Place, _room, _status
 from squall import _library as lib
 from squall import part
-from squall._room import (
-    AnswerRecord,
-    ChunkRecord,
-    CountsRecord,
-    CourseRoom,
-    ErrandRoom,
-    LeaderRoom,
-    LegRecord,
-    MoveRecord,
-    PartRoom,
-    RouterRoom,
-    SpanRecord,
-    ViewRoom,
-)
 
 HERE = Path(__file__).resolve().parent
 HEADER = HERE.parent.parent / "c" / "squall.h"
@@ -43,19 +29,19 @@ PLAIN: Dict[str, Any] = {
     "uint8_t *": ctypes.c_void_p,
     "uint32_t *": ctypes.c_void_p,
     "uint64_t *": ctypes.c_void_p,
-    "squall_router *": ctypes.POINTER(RouterRoom),
-    "squall_view *": ctypes.POINTER(ViewRoom),
-    "squall_course *": ctypes.POINTER(CourseRoom),
-    "squall_errand *": ctypes.POINTER(ErrandRoom),
-    "squall_part *": ctypes.POINTER(PartRoom),
-    "squall_leader *": ctypes.POINTER(LeaderRoom),
-    "squall_leg *": ctypes.POINTER(LegRecord),
-    "squall_move *": ctypes.POINTER(MoveRecord),
+    "squall_router *": ctypes.POINTER(_room.RouterRoom),
+    "squall_view *": ctypes.POINTER(_room.ViewRoom),
+    "squall_course *": ctypes.POINTER(_room.CourseRoom),
+    "squall_errand *": ctypes.POINTER(_room.ErrandRoom),
+    "squall_part *": ctypes.POINTER(_room.PartRoom),
+    "squall_leader *": ctypes.POINTER(_room.LeaderRoom),
+    "squall_leg *": ctypes.POINTER(_room.LegRecord),
+    "squall_move *": ctypes.POINTER(_room.MoveRecord),
     "squall_place *": ctypes.c_void_p,
-    "squall_span *": ctypes.POINTER(SpanRecord),
-    "squall_counts *": ctypes.POINTER(CountsRecord),
-    "squall_chunk *": ctypes.POINTER(ChunkRecord),
-    "squall_answer *": ctypes.POINTER(AnswerRecord),
+    "squall_span *": ctypes.POINTER(_room.SpanRecord),
+    "squall_counts *": ctypes.POINTER(_room.CountsRecord),
+    "squall_chunk *": ctypes.POINTER(_room.ChunkRecord),
+    "squall_answer *": ctypes.POINTER(_room.AnswerRecord),
 }
 
 
@@ -64,6 +50,11 @@ def kind(words: str) -> Any:
     found = re.match(r"(?:const )?(\w+)(?: (\*))?", words.strip())
     assert found is not None, words
     return PLAIN[" ".join(it for it in found.groups() if it)]
+
+
+def fields_of(record: Any) -> List[Any]:
+    """The fields of a record, those of the record on which it stands first."""
+    return [it for of in reversed(record.__mro__) for it in vars(of).get("_fields_", [])]
 
 
 def declared() -> Dict[str, Tuple[Any, List[Any]]]:
@@ -104,7 +95,8 @@ class Functions(unittest.TestCase):
         wanted = declared()
         self.assertEqual(len(wanted), 107)
         bound: Dict[str, int] = dict.fromkeys(wanted, 0)
-        for function in vars(lib).values():
+        in_tuples = [*lib.router_frames, *lib.part_frames, *lib.leader_frames]
+        for function in [*vars(lib).values(), *in_tuples]:
             name = getattr(function, "__name__", "")
             if name in bound and hasattr(function, "argtypes"):
                 bound[name] += 1
@@ -125,27 +117,27 @@ class Functions(unittest.TestCase):
         place = [(it, ctypes.c_uint32) for it in Place._fields]
         self.assertEqual(ctypes.sizeof(_room.PlaceRecord), 4 * len(place))
         records: Dict[str, Any] = {
-            "leg": LegRecord._fields_,
-            "move": MoveRecord._fields_,
+            "leg": fields_of(_room.LegRecord),
+            "move": fields_of(_room.MoveRecord),
             "place": place,
-            "span": SpanRecord._fields_,
-            "counts": CountsRecord._fields_,
-            "chunk": ChunkRecord._fields_,
-            "answer": AnswerRecord._fields_,
+            "span": fields_of(_room.SpanRecord),
+            "counts": fields_of(_room.CountsRecord),
+            "chunk": fields_of(_room.ChunkRecord),
+            "answer": fields_of(_room.AnswerRecord),
         }
         self.assertEqual(records, wanted)
 
     def test_values_have_the_fields_of_their_records(self) -> None:
         pairs: List[Any] = [
-            (squall.Leg, LegRecord),
-            (squall.Move, MoveRecord),
-            (squall.Span, SpanRecord),
-            (squall.Counts, CountsRecord),
-            (squall.Chunk, ChunkRecord),
-            (squall.Answer, AnswerRecord),
+            (squall.Leg, _room.LegRecord),
+            (squall.Move, _room.MoveRecord),
+            (squall.Span, _room.SpanRecord),
+            (squall.Counts, _room.CountsRecord),
+            (squall.Chunk, _room.ChunkRecord),
+            (squall.Answer, _room.AnswerRecord),
         ]
         for kind_of, record in pairs:
-            self.assertEqual(list(kind_of._fields), [name for name, _ in record._fields_])
+            self.assertEqual(list(kind_of._fields), [name for name, _ in fields_of(record)])
 
     @unittest.skipUnless(HEADER.is_file(), "squall.h is not here")
     def test_constants(self) -> None:

@@ -2,7 +2,7 @@
 
 import gc
 import unittest
-from typing import Any, Callable, List
+from typing import Any, Callable, List, Type
 from unittest import mock
 
 from squall import ClosedError, Course, Leader, Part
@@ -27,6 +27,13 @@ class Closing(unittest.TestCase):
         """Looks whether this many partitions and leaders were closed."""
         self.assertEqual((self.parts.count, self.leaders.count), (parts, leaders))
 
+    def refuse(self, error: Type[Exception], *openings: Callable[[], object]) -> None:
+        """Looks whether each opening raises this, and collects the garbage."""
+        for opens in openings:
+            with self.assertRaises(error):
+                opens()
+        gc.collect()
+
     def test_a_handle_is_closed_once(self) -> None:
         course = Course(1, OLD, NEW)
         with Part(1, course) as part, Leader(OLD) as leader, Leader.resume(course):
@@ -46,28 +53,14 @@ class Closing(unittest.TestCase):
 
     def test_what_was_not_opened_is_closed_too(self) -> None:
         course = Course(1, OLD, NEW)
-        none: List[Callable[[], object]] = [lambda: Part(10000, course), lambda: Leader("{}")]
-        for opens in none:
-            with self.assertRaises(ValueError):
-                opens()
-        gc.collect()
+        self.refuse(ValueError, lambda: Part(10000, course), lambda: Leader("{}"))
         self.ended(1, 1)
 
     def test_openings_that_make_no_call(self) -> None:
         course = Course(1, OLD, NEW)
-        wrong: List[Callable[[], object]] = [lambda: Part(-1, course), lambda: Leader(OLD, -1)]
-        for opens in wrong:
-            with self.assertRaises(ValueError):
-                opens()
+        self.refuse(ValueError, lambda: Part(-1, course), lambda: Leader(OLD, -1))
         course.close()
-        closed: List[Callable[[], object]] = [
-            lambda: Part(1, course),
-            lambda: Leader.resume(course),
-        ]
-        for opens in closed:
-            with self.assertRaises(ClosedError):
-                opens()
-        gc.collect()
+        self.refuse(ClosedError, lambda: Part(1, course), lambda: Leader.resume(course))
         self.ended(0, 0)
 
     def test_handles_may_be_opened_again(self) -> None:

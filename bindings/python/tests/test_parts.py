@@ -39,7 +39,7 @@ from squall import (
 from .test_courses import striped
 from .test_handles import open_part
 from .test_threads import together
-from .worked import LOAD_FRAME, NEW, OLD, OPENING_FRAME, fresh, key
+from .worked import LOAD_FRAME, NEW, OLD, OPENING_FRAME, fresh, key, repair
 
 #: All keys that partition 1 gives to 3.
 CHUNK = Chunk(key(2), key(3), 1, 0, 1, 3)
@@ -293,9 +293,7 @@ class Frames(unittest.TestCase):
         knows.load(CHUNK)
         with self.assertRaises(NoDigestError):
             part_of(1).repair()
-        knows.hear(lacks.digest())
-        for sent in knows.repair():
-            lacks.hear(sent)
+        repair(knows, lacks)
         self.assertEqual(lacks.board(), knows.board())
         knows.hear(lacks.digest())
         self.assertEqual(knows.repair(), [])

@@ -33,6 +33,26 @@ def together(*calls: Callable[[], object]) -> None:
         raise raised[0]
 
 
+class Watch:
+    """How many calls of some functions run, and the most that ran at the same time."""
+
+    def __init__(self) -> None:
+        self.running = self.most = 0
+
+    def of(self, call: Callable[..., Any]) -> Callable[..., Any]:
+        """The function, which takes a while and is watched."""
+
+        def watched(*words: Any) -> Any:
+            self.running += 1
+            self.most = max(self.most, self.running)
+            time.sleep(0.001)
+            answer = call(*words)
+            self.running -= 1
+            return answer
+
+        return watched
+
+
 class Shared(unittest.TestCase):
     """One handle and several threads: its calls wait for each other."""
 
@@ -60,25 +80,13 @@ class Shared(unittest.TestCase):
         self.assertEqual(router.board(), wanted.board())
 
     def test_calls_of_one_handle_wait_for_each_other(self) -> None:
-        running, most = [0], [0]
-
-        def watched(call: Callable[..., Any]) -> Callable[..., Any]:
-            def run(*words: Any) -> Any:
-                running[0] += 1
-                most[0] = max(most[0], running[0])
-                time.sleep(0.001)
-                answer = call(*words)
-                running[0] -= 1
-                return answer
-
-            return run
-
-        router = moved()
-        route, hear = watched(Router._call_route), watched(lib.router_hear)
+        router, watch = moved(), Watch()
+        route, frames = watch.of(Router._call_route), Router._calls
+        hears = frames._replace(hear=watch.of(frames.hear))
         with mock.patch.object(Router, "_call_route", staticmethod(route)):
-            with mock.patch.object(Router, "_call_hear", staticmethod(hear)):
+            with mock.patch.object(Router, "_calls", hears):
                 together(*[lambda: router.route(0), lambda: router.hear(LOAD_FRAME)] * 3)
-        self.assertEqual((most, running), ([1], [0]))
+        self.assertEqual((watch.most, watch.running), (1, 0))
 
     def test_frames_are_of_one_call(self) -> None:
         router = moved()

@@ -1,5 +1,7 @@
 """The plans of examples/: [2:0,3:0) moves from 1 to 3 and [6:0,9:0) from 3 to 4, in sub-plan 0."""
 
+from typing import Any
+
 from squall import Rank, Router
 
 OLD = (
@@ -40,6 +42,13 @@ def moved() -> Router:
     router = fresh()
     router.loaded(1, 0, 3, key(2), key(3))
     return router
+
+
+def repair(knows: Any, lacks: Any) -> None:
+    """Lets one partition or leader send another what that lacks."""
+    knows.hear(lacks.digest())
+    for sent in knows.repair():
+        lacks.hear(sent)
 
 
 def wide_plan(ranges: int, shift: int) -> bytes:
