@@ -58,6 +58,72 @@ static inline void drop_router(squall_router *router) {
     free(router);
 }
 
+static inline squall_course *room_for_course(void) {
+    return (squall_course *)room_of(squall_course_size());
+}
+
+/* A course of the two texts, likewise. */
+static inline squall_course *course_of(uint32_t number, const char *old, const char *new_plan) {
+    squall_course *course = room_for_course();
+    squall_course_open(number, bytes_of(old), strlen(old), bytes_of(new_plan), strlen(new_plan),
+                       course);
+    return course;
+}
+
+static inline void drop_course(squall_course *course) {
+    squall_course_close(course);
+    free(course);
+}
+
+/* Writes the frame of a course of the two texts, if there is room, and says how long it is. */
+static inline size_t frame_of_course(uint32_t number, const char *old, const char *new_plan,
+                                     uint8_t *out, size_t room) {
+    squall_course *course = course_of(number, old, new_plan);
+    size_t len = squall_course_frame(course, out, room);
+    drop_course(course);
+    return len;
+}
+
+static inline squall_view *room_for_view(void) {
+    return (squall_view *)room_of(squall_view_size());
+}
+
+static inline squall_view *view_of(const squall_router *router) {
+    squall_view *view = room_for_view();
+    squall_view_open(router, view);
+    return view;
+}
+
+static inline void drop_view(squall_view *view) {
+    squall_view_close(view);
+    free(view);
+}
+
+/* The first key of a root. */
+static inline uint64_t key(uint32_t root) {
+    return squall_rank(root, 0);
+}
+
+static inline bool is_leg(squall_leg leg, uint64_t lo, uint64_t hi, uint32_t part) {
+    return leg.lo == lo && leg.hi == hi && leg.part == part;
+}
+
+/* A router whose course leads from that many ranges, by turns of partitions 3 and 4, to partition 3
+ * alone. Each range begins at the key of three times its index and its index. */
+static inline squall_router *router_from_ranges(uint32_t ranges) {
+    char *text = (char *)room_of((size_t)ranges * 80);
+    char *end = text + sprintf(text, "{\"plan\":[");
+    for (uint32_t i = 0; i < ranges; i++) {
+        end += sprintf(end, "{\"part\":%u,\"from\":[%u,%u],\"to\":", i % 2 == 0 ? 3u : 4u, i * 3, i);
+        end += i + 1 == ranges ? sprintf(end, "\"end\"}") : sprintf(end, "[%u,%u]},", i * 3 + 3, i + 1);
+    }
+    sprintf(end, "]}");
+    squall_router *router = router_of(1, text, "{\"plan\":[{\"part\":3,\"from\":[0,0],\"to\":\"end\"}]}");
+    CHECK(squall_router_status(router) == SQUALL_OK);
+    free(text);
+    return router;
+}
+
 /* The bytes that the hex digits spell, at most `room` of them, and how many. */
 static inline size_t bytes_of_hex(const char *hex, uint8_t *out, size_t room) {
     size_t count = 0;

@@ -2,30 +2,6 @@
  * examples/. The last line is `N passed, M failed`. */
 #include "check.h"
 
-static uint64_t key(uint32_t root) {
-    return squall_rank(root, 0);
-}
-
-static squall_course *room_for_course(void) {
-    return (squall_course *)room_of(squall_course_size());
-}
-
-static squall_course *course_of(uint32_t number, const char *old, const char *new_plan) {
-    squall_course *course = room_for_course();
-    squall_course_open(number, bytes_of(old), strlen(old), bytes_of(new_plan), strlen(new_plan),
-                       course);
-    return course;
-}
-
-static void drop_course(squall_course *course) {
-    squall_course_close(course);
-    free(course);
-}
-
-static bool is_leg(squall_leg leg, uint64_t lo, uint64_t hi, uint32_t part) {
-    return leg.lo == lo && leg.hi == hi && leg.part == part;
-}
-
 static bool is_move(squall_move move, uint64_t lo, uint64_t hi, uint32_t source, uint32_t dest,
                     uint32_t sub) {
     return move.lo == lo && move.hi == hi && move.source == source && move.dest == dest
@@ -378,7 +354,7 @@ static void a_plan_of_too_many_ranges(void) {
     CHECK(squall_course_left(course, loaded, 2048, text, sizeof text) == 0);
     size_t len = squall_course_left(course, loaded, 2047, text, sizeof text);
     CHECK(len > 4095 * 30 && len <= sizeof text);
-    squall_course *back = (squall_course *)room_of(squall_course_size());
+    squall_course *back = room_for_course();
     const char *home = "{\"plan\":[{\"part\":1,\"from\":[0,0],\"to\":\"end\"}]}";
     squall_course_open(2, text, len, (const uint8_t *)home, strlen(home), back);
     squall_leg legs[4096];
@@ -389,17 +365,6 @@ static void a_plan_of_too_many_ranges(void) {
 }
 
 /* ---- where keys stand */
-
-static squall_view *view_of(const squall_router *router) {
-    squall_view *view = (squall_view *)room_of(squall_view_size());
-    squall_view_open(router, view);
-    return view;
-}
-
-static void drop_view(squall_view *view) {
-    squall_view_close(view);
-    free(view);
-}
 
 static void where_keys_stand(void) {
     squall_router *router = router_of(1, OLD, NEW);

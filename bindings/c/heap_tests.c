@@ -25,10 +25,6 @@ static const char OTHER_DIGEST[] = "53510202000000600000000100000001000027100000
                                    "00000001000000010000270f"
                                    "0000000000000000000000000000000000000000000000000000000000000000";
 
-static uint64_t key(uint32_t root) {
-    return squall_rank(root, 0);
-}
-
 static uint32_t load(squall_router *router) {
     return squall_router_loaded(router, 1, 0, 3, key(2), key(3));
 }
@@ -79,11 +75,7 @@ static size_t opened_len;
 static size_t issue_len;
 
 static void make_frames(void) {
-    squall_course *course = (squall_course *)room_of(squall_course_size());
-    squall_course_open(2, bytes_of(NEW), strlen(NEW), bytes_of(OLD), strlen(OLD), course);
-    issue_len = squall_course_frame(course, issue_frame, sizeof issue_frame);
-    squall_course_close(course);
-    free(course);
+    issue_len = frame_of_course(2, NEW, OLD, issue_frame, sizeof issue_frame);
     done_len = squall_frame_done(1, 0, 4, done_frame, sizeof done_frame);
     opened_len = squall_frame_opened(1, 0, opened_frame, sizeof opened_frame);
 }
@@ -148,24 +140,9 @@ static squall_router *full_router(void) {
 
 enum { RANGES = 601, SPANS = 600 };
 
-/* The text of the plan of that many ranges, by turns of partitions 3 and 4. Each begins at the key of three times
- * its index and its index. */
-static const char *many_ranges(void) {
-    static char text[RANGES * 80];
-    char *end = text + sprintf(text, "{\"plan\":[");
-    for (uint32_t i = 0; i < RANGES; i++) {
-        end += sprintf(end, "{\"part\":%u,\"from\":[%u,%u],\"to\":", i % 2 == 0 ? 3u : 4u, i * 3, i);
-        end += i + 1 == RANGES ? sprintf(end, "\"end\"}") : sprintf(end, "[%u,%u]},", i * 3 + 3, i + 1);
-    }
-    sprintf(end, "]}");
-    return text;
-}
-
-/* A router whose course leads from those ranges, which are of four blocks, to partition 3 alone. */
+/* The ranges are of four blocks. */
 static squall_router *router_of_many(void) {
-    squall_router *router = router_of(1, many_ranges(), "{\"plan\":[{\"part\":3,\"from\":[0,0],\"to\":\"end\"}]}");
-    CHECK(squall_router_status(router) == SQUALL_OK);
-    return router;
+    return router_from_ranges(RANGES);
 }
 
 static uint32_t load_wide(squall_router *router, uint64_t lo, uint64_t hi) {
@@ -441,7 +418,7 @@ static bool refuse_in_view(const squall_router *router, squall_view *view, long 
 
 static void openings_of_views(void) {
     static router_maker *const MADE[] = {busy_router, router_of_many};
-    squall_view *view = (squall_view *)room_of(squall_view_size());
+    squall_view *view = room_for_view();
     for (size_t i = 0; i < sizeof MADE / sizeof MADE[0]; i++) {
         squall_router *router = MADE[i]();
         see(router, &before);
@@ -475,7 +452,7 @@ static bool refuse_in_course(squall_course *course, long number) {
 }
 
 static void openings_of_courses(void) {
-    squall_course *course = (squall_course *)room_of(squall_course_size());
+    squall_course *course = room_for_course();
     long number = 1;
     answered = 0;
     while (refuse_in_course(course, number)) {
@@ -499,8 +476,7 @@ static bool refuse_in_receivers(const squall_course *course, long number) {
 }
 
 static void receivers_of_a_course(void) {
-    squall_course *course = (squall_course *)room_of(squall_course_size());
-    squall_course_open(1, bytes_of(OLD), strlen(OLD), bytes_of(NEW), strlen(NEW), course);
+    squall_course *course = course_of(1, OLD, NEW);
     CHECK(squall_course_status(course) == SQUALL_OK);
     long number = 1;
     while (refuse_in_receivers(course, number)) {
@@ -512,8 +488,7 @@ static void receivers_of_a_course(void) {
     CHECK(squall_course_receivers(course, 0, 0, parts, 2) == SQUALL_NO_COUNT);
     refuses_all = false;
     CHECK(parts[0] == 7 && parts[1] == 7);
-    squall_course_close(course);
-    free(course);
+    drop_course(course);
     CHECK(blocks == 0);
 }
 
@@ -567,8 +542,7 @@ static bool refuse_in_frame(put_frame *put, const squall_course *course, long nu
 static void frames_of_reports(void) {
     static put_frame *const PUTS[] = {put_course, put_old_text, put_new_text, put_left,
                                       put_load,   put_done,     put_opened};
-    squall_course *course = (squall_course *)room_of(squall_course_size());
-    squall_course_open(1, bytes_of(OLD), strlen(OLD), bytes_of(NEW), strlen(NEW), course);
+    squall_course *course = course_of(1, OLD, NEW);
     for (size_t i = 0; i < sizeof PUTS / sizeof PUTS[0]; i++) {
         long number = 1;
         answered = 0;
@@ -577,16 +551,15 @@ static void frames_of_reports(void) {
         }
         CHECK(answered > 0);
     }
-    squall_course_close(course);
-    free(course);
+    drop_course(course);
     CHECK(blocks == 0);
 }
 
 /* What the header says of each call of a course that allocates nothing. */
 static void courses_that_allocate_nothing(void) {
     squall_router *router = busy_router();
-    squall_view *view = (squall_view *)room_of(squall_view_size());
-    squall_course *course = (squall_course *)room_of(squall_course_size());
+    squall_view *view = room_for_view();
+    squall_course *course = room_for_course();
     const uint64_t rank = 7;
     squall_move moves[2];
     squall_leg legs[8];
@@ -604,8 +577,7 @@ static void courses_that_allocate_nothing(void) {
     squall_course_close(course);
     CHECK(asked == 0);
     free(course);
-    squall_view_close(view);
-    free(view);
+    drop_view(view);
     drop_router(router);
     CHECK(blocks == 0);
 }
@@ -613,8 +585,8 @@ static void courses_that_allocate_nothing(void) {
 /* What the header says of each call that allocates nothing. */
 static void calls_that_allocate_nothing(void) {
     squall_router *router = busy_router();
-    squall_view *view = (squall_view *)room_of(squall_view_size());
-    squall_view *more = (squall_view *)room_of(squall_view_size());
+    squall_view *view = room_for_view();
+    squall_view *more = room_for_view();
     squall_errand *errand = (squall_errand *)room_of(squall_errand_size());
     squall_leg legs[8];
     uint8_t out[1024];
@@ -634,10 +606,8 @@ static void calls_that_allocate_nothing(void) {
     squall_errand_close(errand);
     CHECK(asked == 0);
     free(errand);
-    squall_view_close(view);
-    squall_view_close(more);
-    free(view);
-    free(more);
+    drop_view(view);
+    drop_view(more);
     drop_router(router);
     CHECK(blocks == 0);
 }

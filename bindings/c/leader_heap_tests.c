@@ -127,11 +127,10 @@ struct seen {
 static struct seen seen_of(squall_leader *leader) {
     struct seen seen;
     memset(&seen, 0, sizeof seen);
-    squall_course *course = (squall_course *)room_of(squall_course_size());
+    squall_course *course = room_for_course();
     squall_leader_course(leader, course);
     seen.number = squall_course_number(course);
-    squall_course_close(course);
-    free(course);
+    drop_course(course);
     seen.finished = squall_leader_finished(leader);
     seen.waits = squall_leader_frame(leader, seen.board, sizeof seen.board);
     CHECK(squall_leader_gather_board(leader, SQUALL_NO_LIMIT) == SQUALL_OK);
@@ -347,22 +346,20 @@ static bool refuse_in_resuming(const squall_course *course, long number) {
 }
 
 static void resumptions(void) {
-    squall_course *course = (squall_course *)room_of(squall_course_size());
-    squall_course_open(7, bytes_of(OLD), strlen(OLD), bytes_of(NEW), strlen(NEW), course);
+    squall_course *course = course_of(7, OLD, NEW);
     long number = 1;
     answered = 0;
     while (refuse_in_resuming(course, number)) {
         number++;
     }
     CHECK(number > 1 && answered > 0);
-    squall_course_close(course);
-    free(course);
+    drop_course(course);
     CHECK(blocks == 0);
 }
 
 static void calls_that_allocate_nothing(void) {
     squall_leader *leader = busy_leader();
-    squall_course *course = (squall_course *)room_of(squall_course_size());
+    squall_course *course = room_for_course();
     uint8_t frame[2048];
     asked = 0;
     refuses_all = true;

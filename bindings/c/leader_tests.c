@@ -18,14 +18,9 @@ static void drop_leader(squall_leader *leader) {
 }
 
 static squall_course *begun_by(const squall_leader *leader) {
-    squall_course *course = (squall_course *)room_of(squall_course_size());
+    squall_course *course = room_for_course();
     squall_leader_course(leader, course);
     return course;
-}
-
-static void drop_course(squall_course *course) {
-    squall_course_close(course);
-    free(course);
 }
 
 static uint32_t begin(squall_leader *leader, const char *plan) {
@@ -113,12 +108,9 @@ static void nothing_moves(void) {
 
 /* A router hears the frame of a course. */
 static void hear_course(squall_router *router, uint32_t number, const char *old, const char *new_plan) {
-    squall_course *course = (squall_course *)room_of(squall_course_size());
     uint8_t frame[512];
-    squall_course_open(number, bytes_of(old), strlen(old), bytes_of(new_plan), strlen(new_plan), course);
-    size_t len = squall_course_frame(course, frame, sizeof frame);
+    size_t len = frame_of_course(number, old, new_plan, frame, sizeof frame);
     CHECK(squall_router_hear(router, frame, len) == SQUALL_OK);
-    drop_course(course);
 }
 
 /* Whether the leader's board is the router's. */
@@ -209,10 +201,9 @@ static void a_first_course_begins_anywhere(void) {
 }
 
 static void a_course_is_resumed(void) {
-    squall_course *course = (squall_course *)room_of(squall_course_size());
+    squall_course *course = course_of(7, OLD, NEW);
     squall_leader *leader = room_for_leader();
     uint32_t out[2];
-    squall_course_open(7, bytes_of(OLD), strlen(OLD), bytes_of(NEW), strlen(NEW), course);
     squall_leader_resume(course, leader);
     drop_course(course);
     CHECK(squall_leader_status(leader) == SQUALL_OK);
@@ -258,8 +249,7 @@ static void leaders_that_are_none(void) {
     CHECK(squall_leader_status(leader) == SQUALL_PLAN_GAP);
     CHECK(squall_leader_fault_at(leader) == squall_rank(3, 0));
     drop_leader(leader);
-    squall_course *none = (squall_course *)room_of(squall_course_size());
-    squall_course_open(0, bytes_of(OLD), strlen(OLD), bytes_of(NEW), strlen(NEW), none);
+    squall_course *none = course_of(0, OLD, NEW);
     leader = room_for_leader();
     squall_leader_resume(none, leader);
     CHECK(squall_leader_status(leader) == SQUALL_CLOSED);

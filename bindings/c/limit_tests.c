@@ -12,10 +12,14 @@ struct frames {
     uint8_t bytes[512];
 };
 
-static struct frames load(uint64_t lo, uint64_t hi) {
+static struct frames load_in(uint32_t sub, uint64_t lo, uint64_t hi) {
     struct frames made = {0};
-    made.len = squall_frame_loaded(1, 0, 3, lo, hi, made.bytes, sizeof made.bytes);
+    made.len = squall_frame_loaded(1, sub, 3, lo, hi, made.bytes, sizeof made.bytes);
     return made;
+}
+
+static struct frames load(uint64_t lo, uint64_t hi) {
+    return load_in(0, lo, hi);
 }
 
 static struct frames completion(uint32_t part) {
@@ -30,14 +34,20 @@ static struct frames opening(uint32_t sub) {
     return made;
 }
 
-static struct frames issue(uint32_t number) {
+/* The frame by which a course is issued. */
+static struct frames course(uint32_t number, const char *old, const char *new_plan) {
     struct frames made = {0};
-    squall_course *course = (squall_course *)room_of(squall_course_size());
-    squall_course_open(number, bytes_of(OLD), strlen(OLD), bytes_of(NEW), strlen(NEW), course);
-    made.len = squall_course_frame(course, made.bytes, sizeof made.bytes);
-    squall_course_close(course);
-    free(course);
+    made.len = frame_of_course(number, old, new_plan, made.bytes, sizeof made.bytes);
     return made;
+}
+
+static struct frames issue(uint32_t number) {
+    return course(number, OLD, NEW);
+}
+
+/* That by which a course follows, from the new plan to the old one. */
+static struct frames way_back(uint32_t number) {
+    return course(number, NEW, OLD);
 }
 
 static struct frames of_hex(const char *hex) {
@@ -189,21 +199,9 @@ static void the_limit_is_on_what_is_joined(void) {
     }
 }
 
-static struct frames load_in(uint32_t sub, uint64_t hi) {
-    struct frames made = {0};
-    made.len = squall_frame_loaded(1, sub, 3, squall_rank(2, 0), hi, made.bytes, sizeof made.bytes);
-    return made;
-}
-
-/* The frame by which a course follows, from the new plan to the old one. */
-static struct frames way_back(uint32_t number) {
-    struct frames made = {0};
-    squall_course *course = (squall_course *)room_of(squall_course_size());
-    squall_course_open(number, bytes_of(NEW), strlen(NEW), bytes_of(OLD), strlen(OLD), course);
-    made.len = squall_course_frame(course, made.bytes, sizeof made.bytes);
-    squall_course_close(course);
-    free(course);
-    return made;
+/* The keys from 2:0 on. */
+static struct frames load_up_to(uint32_t sub, uint64_t hi) {
+    return load_in(sub, squall_rank(2, 0), hi);
 }
 
 /* At most one cell of one span, two opened sub-plans, and one issue. A load of more keys joins the one before.
@@ -212,15 +210,15 @@ static void what_is_within_is_taken(void) {
     for (int way = 0; way < COUNT_OF_WAYS; way++) {
         squall_router *router = fresh();
         CHECK(squall_router_limit(router, 1, 1, 2, 1) == SQUALL_OK);
-        CHECK(take(WAYS[way], router, load_in(0, squall_rank(2, 7))) == SQUALL_OK);
-        CHECK(take(WAYS[way], router, load_in(0, squall_rank(3, 0))) == SQUALL_OK);
+        CHECK(take(WAYS[way], router, load_up_to(0, squall_rank(2, 7))) == SQUALL_OK);
+        CHECK(take(WAYS[way], router, load_up_to(0, squall_rank(3, 0))) == SQUALL_OK);
         CHECK(is_full_for(WAYS[way], router, completion(4)));
-        CHECK(is_full_for(WAYS[way], router, load_in(1, squall_rank(3, 0))));
+        CHECK(is_full_for(WAYS[way], router, load_up_to(1, squall_rank(3, 0))));
         CHECK(take(WAYS[way], router, opening(0)) == SQUALL_OK);
         CHECK(take(WAYS[way], router, way_back(2)) == SQUALL_OK);
         CHECK(is_full_for(WAYS[way], router, issue(3)));
         CHECK(take(WAYS[way], router, way_back(2)) == SQUALL_OK);
-        CHECK(take(WAYS[way], router, load_in(0, squall_rank(4, 0))) == SQUALL_OK);
+        CHECK(take(WAYS[way], router, load_up_to(0, squall_rank(4, 0))) == SQUALL_OK);
         CHECK(squall_router_number(router) == 2 && squall_router_route(router, squall_rank(2, 0)) == 3);
         CHECK(told(router, CELLS) == 1 && told(router, SPANS) == 1);
         CHECK(told(router, OPENED) == 1 && told(router, ISSUES) == 1);
@@ -232,10 +230,10 @@ static void what_is_within_is_taken(void) {
 /* Above the limit no frame passes, not even one that is known. */
 static void above_the_limit_nothing_is_taken(void) {
     squall_router *router = fresh();
-    CHECK(take(squall_router_hear, router, load_in(0, squall_rank(2, 7))) == SQUALL_OK);
+    CHECK(take(squall_router_hear, router, load_up_to(0, squall_rank(2, 7))) == SQUALL_OK);
     CHECK(take(squall_router_hear, router, completion(4)) == SQUALL_OK);
     CHECK(squall_router_limit(router, 1, 1, 2, 1) == SQUALL_OK);
-    CHECK(is_full_for(squall_router_hear, router, load_in(0, squall_rank(2, 7))));
+    CHECK(is_full_for(squall_router_hear, router, load_up_to(0, squall_rank(2, 7))));
     CHECK(is_full_for(squall_router_hear, router, completion(4)));
     CHECK(is_full_for(squall_router_hear, router, way_back(2)));
     CHECK(told(router, CELLS) == 2);

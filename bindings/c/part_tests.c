@@ -9,17 +9,11 @@
 static const squall_chunk NO_CHUNK = {7, 7, 7, 7, 7, 7};
 static const squall_answer NO_ANSWER = {7, 7, 7};
 
-static uint64_t key(uint32_t root) {
-    return squall_rank(root, 0);
-}
-
 static squall_part *part_of(uint32_t id) {
-    squall_course *course = (squall_course *)room_of(squall_course_size());
+    squall_course *course = course_of(1, OLD, NEW);
     squall_part *part = (squall_part *)room_of(squall_part_size());
-    squall_course_open(1, bytes_of(OLD), strlen(OLD), bytes_of(NEW), strlen(NEW), course);
     squall_part_open(id, course, part);
-    squall_course_close(course);
-    free(course);
+    drop_course(course);
     return part;
 }
 
@@ -108,14 +102,13 @@ static void partitions_that_are_none(void) {
     CHECK(squall_part_status(part) == SQUALL_LIMIT);
     has_no_partition(part);
     squall_part_close(part);
-    squall_course *course = (squall_course *)room_of(squall_course_size());
+    squall_course *course = room_for_course();
     squall_course_open(0, bytes_of(""), 0, bytes_of(""), 0, course);
     squall_part_open(1, course, part);
     CHECK(squall_part_status(part) == SQUALL_CLOSED);
     has_no_partition(part);
     drop_part(part);
-    squall_course_close(course);
-    free(course);
+    drop_course(course);
     CHECK(blocks == 0);
 }
 
@@ -227,12 +220,8 @@ static bool serves(const squall_part *part, uint32_t after, uint32_t reply, uint
 
 /* The partition hears of the way back, course 2, and that its sub-plan 0 is opened. */
 static void hear_way_back(squall_part *part) {
-    squall_course *course = (squall_course *)room_of(squall_course_size());
     uint8_t frame[512];
-    squall_course_open(2, bytes_of(NEW), strlen(NEW), bytes_of(OLD), strlen(OLD), course);
-    size_t len = squall_course_frame(course, frame, sizeof frame);
-    squall_course_close(course);
-    free(course);
+    size_t len = frame_of_course(2, NEW, OLD, frame, sizeof frame);
     CHECK(squall_part_hear(part, frame, len) == SQUALL_OK);
     len = squall_frame_opened(2, 0, frame, sizeof frame);
     CHECK(squall_part_hear(part, frame, len) == SQUALL_OK);
@@ -562,11 +551,7 @@ static uint8_t way_back[512];
 static size_t way_back_len;
 
 static void make_way_back(void) {
-    squall_course *course = (squall_course *)room_of(squall_course_size());
-    squall_course_open(2, bytes_of(NEW), strlen(NEW), bytes_of(OLD), strlen(OLD), course);
-    way_back_len = squall_course_frame(course, way_back, sizeof way_back);
-    squall_course_close(course);
-    free(course);
+    way_back_len = frame_of_course(2, NEW, OLD, way_back, sizeof way_back);
 }
 
 static uint32_t turn(squall_part *part) {
@@ -783,9 +768,8 @@ static bool refuse_in_opening(const squall_course *course, squall_part *part, lo
 }
 
 static void refused_openings(void) {
-    squall_course *course = (squall_course *)room_of(squall_course_size());
+    squall_course *course = course_of(1, OLD, NEW);
     squall_part *part = (squall_part *)room_of(squall_part_size());
-    squall_course_open(1, bytes_of(OLD), strlen(OLD), bytes_of(NEW), strlen(NEW), course);
     long before = blocks;
     long number = 1;
     while (refuse_in_opening(course, part, number)) {
@@ -794,8 +778,7 @@ static void refused_openings(void) {
     }
     CHECK(number > 1);
     free(part);
-    squall_course_close(course);
-    free(course);
+    drop_course(course);
     CHECK(blocks == 0);
 }
 

@@ -2,10 +2,6 @@
  * are worked out by hand from the plans of examples/. The last line is `N passed, M failed`. */
 #include "check.h"
 
-static uint64_t key(uint32_t root) {
-    return squall_rank(root, 0);
-}
-
 /* ---- what comes to a router */
 
 /* What is said, one letter each:
@@ -16,15 +12,6 @@ static uint64_t key(uint32_t root) {
  * 1, 2 or 3, the new plan follows the old one under that number; I, B or T, the old plan the new one. */
 static size_t frame_of_load(uint32_t sub, uint64_t hi, uint8_t *out, size_t room) {
     return squall_frame_loaded(1, sub, 3, key(2), hi, out, room);
-}
-
-static size_t frame_of_issue(uint32_t number, const char *old, const char *new_plan, uint8_t *out, size_t room) {
-    squall_course *course = (squall_course *)room_of(squall_course_size());
-    squall_course_open(number, bytes_of(old), strlen(old), bytes_of(new_plan), strlen(new_plan), course);
-    size_t len = squall_course_frame(course, out, room);
-    squall_course_close(course);
-    free(course);
-    return len;
 }
 
 static size_t frame_of(char said, uint8_t *out, size_t room) {
@@ -42,13 +29,13 @@ static size_t frame_of(char said, uint8_t *out, size_t room) {
     case 'd':
         return squall_frame_done(1, 0, 4, out, room);
     case 'I':
-        return frame_of_issue(1, NEW, OLD, out, room);
+        return frame_of_course(1, NEW, OLD, out, room);
     case 'B':
-        return frame_of_issue(2, NEW, OLD, out, room);
+        return frame_of_course(2, NEW, OLD, out, room);
     case 'T':
-        return frame_of_issue(3, NEW, OLD, out, room);
+        return frame_of_course(3, NEW, OLD, out, room);
     default:
-        return frame_of_issue((uint32_t)(said - '0'), OLD, NEW, out, room);
+        return frame_of_course((uint32_t)(said - '0'), OLD, NEW, out, room);
     }
 }
 
@@ -237,10 +224,6 @@ static void taken_as_heard(void) {
     }
 }
 
-static bool is_leg(squall_leg leg, uint64_t lo, uint64_t hi, uint32_t part) {
-    return leg.lo == lo && leg.hi == hi && leg.part == part;
-}
-
 static void legs_are_cut_to_the_span(void) {
     squall_leg legs[4];
     squall_router *router = router_of(1, OLD, NEW);
@@ -257,26 +240,8 @@ static void legs_are_cut_to_the_span(void) {
 
 enum { RANGES = 2101, MANY = 4096 };
 
-/* The text of the plan of that many ranges, by turns of partitions 3 and 4. Each begins at the key of three times
- * its index and its index. */
-static char *many_ranges(void) {
-    char *text = (char *)room_of(RANGES * 80);
-    char *end = text + sprintf(text, "{\"plan\":[");
-    for (uint32_t i = 0; i < RANGES; i++) {
-        end += sprintf(end, "{\"part\":%u,\"from\":[%u,%u],\"to\":", i % 2 == 0 ? 3u : 4u, i * 3, i);
-        end += i + 1 == RANGES ? sprintf(end, "\"end\"}") : sprintf(end, "[%u,%u]},", i * 3 + 3, i + 1);
-    }
-    sprintf(end, "]}");
-    return text;
-}
-
-/* A router whose course leads from those ranges to partition 3 alone. */
 static squall_router *router_of_many(void) {
-    char *old = many_ranges();
-    squall_router *router = router_of(1, old, "{\"plan\":[{\"part\":3,\"from\":[0,0],\"to\":\"end\"}]}");
-    CHECK(squall_router_status(router) == SQUALL_OK);
-    free(old);
-    return router;
+    return router_from_ranges(RANGES);
 }
 
 /* Some keys in the middle of legs 1, 301, 1201 and 2099, each of partition 4: two legs more for each. */

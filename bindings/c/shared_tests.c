@@ -86,25 +86,14 @@ static void share(const squall_view *before, const squall_view *view) {
     pthread_barrier_destroy(&start);
 }
 
-static squall_view *view_room(void) {
-    return (squall_view *)room_of(squall_view_size());
-}
-
-static void drop_view(squall_view *view) {
-    squall_view_close(view);
-    free(view);
-}
-
 /* Views of the worked example before and after one load, and one more view of the last. */
 static void views_are_shared(void) {
     squall_router *router = router_of(1, OLD, NEW);
-    squall_view *before = view_room();
-    squall_view *view = view_room();
-    squall_view *again = view_room();
+    squall_view *before = view_of(router);
+    squall_view *again = room_for_view();
     squall_span span = {0, 0};
-    squall_view_open(router, before);
     CHECK(squall_router_loaded(router, 1, 0, 3, squall_rank(2, 0), squall_rank(3, 0)) == SQUALL_OK);
-    squall_view_open(router, view);
+    squall_view *view = view_of(router);
     squall_view_again(view, again);
     drop_router(router);
     CHECK(squall_view_route(view, squall_rank(2, 0)) == 3);
@@ -122,10 +111,8 @@ static void views_are_shared(void) {
 /* No view is shared as well. */
 static void no_view_is_shared(void) {
     squall_router *router = router_of(0, OLD, NEW);
-    squall_view *view = view_room();
-    squall_view *other = view_room();
-    squall_view_open(router, view);
-    squall_view_open(router, other);
+    squall_view *view = view_of(router);
+    squall_view *other = view_of(router);
     drop_router(router);
     CHECK(squall_view_status(view) == SQUALL_CLOSED);
     share(other, view);

@@ -70,12 +70,10 @@ static void *read_texts(void *unused) {
     status = squall_router_issued(router, 2, bytes_of(nested), strlen(nested));
     CHECK(status == SQUALL_OK || status == SQUALL_NEW_PLAN_JSON);
     drop_router(router);
-    squall_course *course = (squall_course *)room_of(squall_course_size());
-    squall_course_open(1, bytes_of(nested), strlen(nested), bytes_of(nested), strlen(nested), course);
+    squall_course *course = course_of(1, nested, nested);
     status = squall_course_status(course);
     CHECK(status == SQUALL_OK || status == SQUALL_PLAN_JSON);
-    squall_course_close(course);
-    free(course);
+    drop_course(course);
     return NULL;
 }
 
@@ -136,8 +134,8 @@ static void *tell(void *unused) {
 /* The calls of two views. Between them one key more was loaded. */
 static void *compare(void *unused) {
     (void)unused;
-    squall_view *view = (squall_view *)room_of(squall_view_size());
-    squall_view *other = (squall_view *)room_of(squall_view_size());
+    squall_view *view = room_for_view();
+    squall_view *other = room_for_view();
     squall_errand *errand = (squall_errand *)room_of(squall_errand_size());
     const uint64_t rank = squall_rank(2, 2 * SPANS);
     uint32_t part;
@@ -165,8 +163,8 @@ static void *compare(void *unused) {
 
 static void *look(void *unused) {
     (void)unused;
-    squall_view *view = (squall_view *)room_of(squall_view_size());
-    squall_course *course = (squall_course *)room_of(squall_course_size());
+    squall_view *view = room_for_view();
+    squall_course *course = room_for_course();
     squall_errand *errand = (squall_errand *)room_of(squall_errand_size());
     const uint64_t rank = squall_rank(2, 0);
     squall_place place;
@@ -231,19 +229,18 @@ static void *hold(void *room) {
 }
 
 static void *opening_of_a_part(void *room) {
-    squall_course *course = (squall_course *)room_of(squall_course_size());
+    squall_course *course = room_for_course();
     squall_course_first(opened, course);
     squall_part_open(3, course, (squall_part *)room);
     CHECK(squall_part_status((squall_part *)room) == SQUALL_OK);
-    squall_course_close(course);
-    free(course);
+    drop_course(course);
     return NULL;
 }
 
 /* A leader in the midst of the course hears all that the router knows. */
 static void *lead(void *unused) {
     (void)unused;
-    squall_course *course = (squall_course *)room_of(squall_course_size());
+    squall_course *course = room_for_course();
     squall_leader *leader = (squall_leader *)room_of(squall_leader_size());
     uint32_t out[2];
     squall_course_newest(opened, course);

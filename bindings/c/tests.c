@@ -3,10 +3,6 @@
  * `N passed, M failed`. */
 #include "check.h"
 
-static uint64_t key(uint32_t root) {
-    return squall_rank(root, 0);
-}
-
 static squall_router *fresh(void) {
     return router_of(1, OLD, NEW);
 }
@@ -182,10 +178,6 @@ static void newer_courses_and_clashes(void) {
 }
 
 /* ---- legs */
-
-static bool is_leg(squall_leg leg, uint64_t lo, uint64_t hi, uint32_t part) {
-    return leg.lo == lo && leg.hi == hi && leg.part == part;
-}
 
 static void legs_of_spans(void) {
     squall_router *router = fresh();
@@ -554,17 +546,6 @@ static void routers_that_repair(void) {
 
 /* ---- views */
 
-static squall_view *view_of(const squall_router *router) {
-    squall_view *view = (squall_view *)room_of(squall_view_size());
-    squall_view_open(router, view);
-    return view;
-}
-
-static void drop_view(squall_view *view) {
-    squall_view_close(view);
-    free(view);
-}
-
 static void routes_of_many_keys(void) {
     squall_router *router = fresh();
     CHECK(squall_router_loaded(router, 1, 0, 3, key(2), key(3)) == SQUALL_OK);
@@ -590,7 +571,7 @@ static void views_stay_as_they_are(void) {
     CHECK(squall_router_loaded(router, 1, 0, 3, key(2), key(3)) == SQUALL_OK);
     CHECK(issue(router, 2, OLD) == SQUALL_OK);
     squall_view *after = view_of(router);
-    squall_view *again = (squall_view *)room_of(squall_view_size());
+    squall_view *again = room_for_view();
     squall_view_again(before, again);
     drop_router(router);
     CHECK(squall_view_status(again) == SQUALL_OK);
@@ -706,7 +687,7 @@ static void where_no_router_stands(void) {
     CHECK(squall_view_route(view, key(2)) == SQUALL_NOWHERE);
     CHECK(squall_view_legs(view, 0, SQUALL_TOP, legs, 1) == 0);
     CHECK(squall_view_number(view) == 0);
-    squall_view *again = (squall_view *)room_of(squall_view_size());
+    squall_view *again = room_for_view();
     squall_view_again(view, again);
     CHECK(squall_view_status(again) == SQUALL_CLOSED);
     drop_view(again);

@@ -6,10 +6,6 @@
 
 /* ---- routers */
 
-static uint64_t key(uint32_t root) {
-    return squall_rank(root, 0);
-}
-
 static uint32_t issue(squall_router *router, uint32_t number, const char *plan) {
     return squall_router_issued(router, number, bytes_of(plan), strlen(plan));
 }
@@ -109,17 +105,6 @@ static void where_no_router_is(void) {
 }
 
 /* ---- views */
-
-static squall_view *view_of(const squall_router *router) {
-    squall_view *view = (squall_view *)room_of(squall_view_size());
-    squall_view_open(router, view);
-    return view;
-}
-
-static void drop_view(squall_view *view) {
-    squall_view_close(view);
-    free(view);
-}
 
 static bool is_span(squall_span span, uint64_t lo, uint64_t hi) {
     return span.lo == lo && span.hi == hi;
