@@ -1,49 +1,18 @@
 //! A board as nested maps to sorted vectors of spans, in Rust.
 
+#[path = "../shared.rs"]
+mod shared;
+
+use shared::{has, insert, Cell, Span};
 use std::collections::BTreeMap;
 use std::time::{Duration, Instant};
 
-/// The keys from `lo` on, below `hi`.
-#[derive(Clone, Copy)]
-struct Span {
-    lo: u64,
-    hi: u64,
-}
-
-/// What was loaded: spans in order, none of which overlaps or touches the next. And whether the
-/// partition is done.
-#[derive(Default)]
-struct Cell {
-    spans: Vec<Span>,
-    done: bool,
-}
-
-impl Cell {
-    fn insert(&mut self, span: Span) {
-        let from = self.spans.partition_point(|s| s.hi < span.lo);
-        let to = self.spans.partition_point(|s| s.lo <= span.hi);
-        if from == to {
-            self.spans.insert(from, span);
-            return;
-        }
-        self.spans[from] = Span {
-            lo: span.lo.min(self.spans[from].lo),
-            hi: span.hi.max(self.spans[to - 1].hi),
-        };
-        self.spans.drain(from + 1..to);
+/// Adds what another cell has.
+fn join(cell: &mut Cell, other: &Cell) {
+    for span in &other.spans {
+        insert(&mut cell.spans, *span);
     }
-
-    fn has(&self, key: u64) -> bool {
-        let at = self.spans.partition_point(|s| s.hi <= key);
-        self.spans.get(at).is_some_and(|s| s.lo <= key)
-    }
-
-    fn merge(&mut self, other: &Cell) {
-        for span in &other.spans {
-            self.insert(*span);
-        }
-        self.done |= other.done;
-    }
+    cell.done |= other.done;
 }
 
 /// A load of a span, by a partition, in a sub-plan of the reconfiguration with the number.
@@ -72,15 +41,14 @@ impl Board {
     }
 
     fn take(&mut self, load: &Load) {
-        self.cell(load.number, load.sub, load.part)
-            .insert(load.span);
+        insert(&mut self.cell(load.number, load.sub, load.part).spans, load.span);
     }
 
     fn merge(&mut self, other: &Board) {
         for (number, subs) in &other.cells {
             for (sub, parts) in subs {
                 for (part, cell) in parts {
-                    self.cell(*number, *sub, *part).merge(cell);
+                    join(self.cell(*number, *sub, *part), cell);
                 }
             }
         }
@@ -90,7 +58,7 @@ impl Board {
         let subs = self.cells.get(&number);
         let parts = subs.and_then(|subs| subs.get(&sub));
         let cell = parts.and_then(|parts| parts.get(&part));
-        cell.is_some_and(|cell| cell.has(key))
+        cell.is_some_and(|cell| has(&cell.spans, key))
     }
 }
 

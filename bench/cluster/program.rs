@@ -1,6 +1,10 @@
 //! The same in Rust: a table under an `RwLock` that one thread patches all the time while others read it, and reports
 //! that threads send through a `sync_channel` to one that puts them into a board and patches the table.
 
+#[path = "../shared.rs"]
+mod shared;
+
+use shared::next;
 use std::collections::BTreeMap;
 use std::sync::atomic::{AtomicBool, AtomicUsize, Ordering};
 use std::sync::{mpsc, RwLock};
@@ -106,7 +110,7 @@ fn keys(loads: u32) -> Vec<u64> {
     let mut state = 20221126u64;
     (0..ROUTES)
         .map(|_| {
-            state = state.wrapping_mul(6364136223846793005).wrapping_add(1442695040888963407);
+            state = next(state);
             bound((state >> 33) as u32 % (loads * 10), 7)
         })
         .collect()
@@ -152,34 +156,40 @@ fn routes(loads: u32, readers: usize) {
     println!("route, {} legs, {readers} readers: {each} ns", loads * 2);
 }
 
-fn letters(senders: u32) {
+/// Sends what `of` makes of each letter, in as many threads as there are senders, to the one that calls `heed`.
+/// Prints what a letter costs.
+fn post<Sent: Send>(name: &str, senders: u32, of: fn(&Report) -> Sent, heed: impl FnMut(Sent)) {
     let start_of = |sender: u32| sender * (LETTERS / senders);
     let lists: Vec<Vec<Report>> = (0..senders)
         .map(|sender| (start_of(sender)..start_of(sender + 1)).map(|at| longer(500, at)).collect())
         .collect();
-    let (mut board, legs) = opening(500);
-    let table = RwLock::new(legs);
     let start = Instant::now();
     thread::scope(|scope| {
-        let (sender, receiver) = mpsc::sync_channel::<Report>(1024);
+        let (sender, receiver) = mpsc::sync_channel(1024);
         for list in &lists {
             let sender = sender.clone();
             scope.spawn(move || {
                 for report in list {
-                    sender.send(*report).unwrap();
+                    sender.send(of(report)).unwrap();
                 }
             });
         }
         drop(sender);
-        let mut fresh = vec![];
-        for report in receiver {
-            take(&mut board, &report);
-            patch(&mut table.write().unwrap(), &mut fresh, &report);
-        }
+        receiver.into_iter().for_each(heed);
     });
     let each = start.elapsed().as_nanos() / u128::from(LETTERS);
+    println!("{name}, {senders} senders: {each} ns");
+}
+
+fn letters(senders: u32) {
+    let (mut board, legs) = opening(500);
+    let table = RwLock::new(legs);
+    let mut fresh = vec![];
+    post("letter", senders, |report| *report, |report| {
+        take(&mut board, &report);
+        patch(&mut table.write().unwrap(), &mut fresh, &report);
+    });
     std::hint::black_box((board, table.into_inner().unwrap().len()));
-    println!("letter, {senders} senders: {each} ns");
 }
 
 /// A board and its table, of which a desk has two copies.
@@ -209,38 +219,19 @@ fn letter_of(report: &Report) -> Board {
 /// The same work as that of a cluster: a letter is a board, and goes into either of two copies, of which readers look
 /// at one while the owner changes the other.
 fn boards(senders: u32) {
-    let start_of = |sender: u32| sender * (LETTERS / senders);
-    let lists: Vec<Vec<Report>> = (0..senders)
-        .map(|sender| (start_of(sender)..start_of(sender + 1)).map(|at| longer(500, at)).collect())
-        .collect();
     let copies = [(); 2].map(|()| {
         let (board, legs) = opening(500);
         RwLock::new(Published { board, legs })
     });
     let shown = AtomicUsize::new(0);
-    let start = Instant::now();
-    thread::scope(|scope| {
-        let (sender, receiver) = mpsc::sync_channel::<Board>(1024);
-        for list in &lists {
-            let sender = sender.clone();
-            scope.spawn(move || {
-                for report in list {
-                    sender.send(letter_of(report)).unwrap();
-                }
-            });
-        }
-        drop(sender);
-        let mut fresh = vec![];
-        for letter in receiver {
-            let hidden = 1 - shown.load(Ordering::SeqCst);
-            absorb(&copies[hidden], &mut fresh, &letter);
-            shown.store(hidden, Ordering::SeqCst);
-            absorb(&copies[1 - hidden], &mut fresh, &letter);
-        }
+    let mut fresh = vec![];
+    post("letter as a board, two copies", senders, letter_of, |letter| {
+        let hidden = 1 - shown.load(Ordering::SeqCst);
+        absorb(&copies[hidden], &mut fresh, &letter);
+        shown.store(hidden, Ordering::SeqCst);
+        absorb(&copies[1 - hidden], &mut fresh, &letter);
     });
-    let each = start.elapsed().as_nanos() / u128::from(LETTERS);
     std::hint::black_box(&copies);
-    println!("letter as a board, two copies, {senders} senders: {each} ns");
 }
 
 fn main() {

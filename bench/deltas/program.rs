@@ -1,22 +1,14 @@
 //! What boards send each other, in Rust: nested maps to sorted vectors of spans.
 
+#[path = "../shared.rs"]
+mod shared;
+
+use shared::{next, Cell, Span};
 use std::collections::BTreeMap;
 use std::hint::black_box;
 use std::time::{Duration, Instant};
 
 const BODY_LIMIT: usize = 1_048_576;
-
-#[derive(Clone, Copy, PartialEq)]
-struct Span {
-    lo: u64,
-    hi: u64,
-}
-
-#[derive(Clone, Default, PartialEq)]
-struct Cell {
-    spans: Vec<Span>,
-    done: bool,
-}
 
 type Parts = BTreeMap<u32, Cell>;
 
@@ -184,15 +176,7 @@ fn sha256(bytes: &[u8]) -> [u8; 32] {
 fn row_hash(number: u32, sub: u32, parts: &Parts, bytes: &mut Vec<u8>) -> [u8; 32] {
     bytes.clear();
     for (part, cell) in parts {
-        bytes.extend_from_slice(&number.to_be_bytes());
-        bytes.extend_from_slice(&sub.to_be_bytes());
-        bytes.extend_from_slice(&part.to_be_bytes());
-        bytes.push(u8::from(cell.done));
-        bytes.extend_from_slice(&(cell.spans.len() as u32).to_be_bytes());
-        for span in &cell.spans {
-            bytes.extend_from_slice(&span.lo.to_be_bytes());
-            bytes.extend_from_slice(&span.hi.to_be_bytes());
-        }
+        cell.write(number, sub, *part, bytes);
     }
     sha256(bytes)
 }
@@ -237,7 +221,7 @@ fn loads(cells: u32, count: u32) -> Vec<Board> {
     let mut state = 1u64;
     let mut boards = Vec::new();
     for _ in 0..count {
-        state = state.wrapping_mul(6364136223846793005).wrapping_add(1442695040888963407);
+        state = next(state);
         let cell = (state >> 33) as u32 % cells;
         let mut board = Board::default();
         let lo = 200 + (state >> 40) % 500;

@@ -1,22 +1,13 @@
 //! Boards as frames of bytes, in Rust: nested maps to sorted vectors of spans.
 
+#[path = "../shared.rs"]
+mod shared;
+
+use shared::{Cell, Span, TOP};
 use std::collections::BTreeMap;
 use std::time::{Duration, Instant};
 
-const TOP: u64 = 0xffff_ffff_0000_0000;
 const BODY_LIMIT: usize = 1_048_576;
-
-#[derive(Clone, Copy)]
-struct Span {
-    lo: u64,
-    hi: u64,
-}
-
-#[derive(Default)]
-struct Cell {
-    spans: Vec<Span>,
-    done: bool,
-}
 
 /// How many sub-plans are opened, by number, and cells by number, sub-plan and partition.
 #[derive(Default)]
@@ -70,15 +61,7 @@ fn encode(board: &Board) -> Option<Vec<u8>> {
     }
     out.extend_from_slice(&(board.cells().count() as u32).to_be_bytes());
     for (number, sub, part, cell) in board.cells() {
-        out.extend_from_slice(&number.to_be_bytes());
-        out.extend_from_slice(&sub.to_be_bytes());
-        out.extend_from_slice(&part.to_be_bytes());
-        out.push(u8::from(cell.done));
-        out.extend_from_slice(&(cell.spans.len() as u32).to_be_bytes());
-        for span in &cell.spans {
-            out.extend_from_slice(&span.lo.to_be_bytes());
-            out.extend_from_slice(&span.hi.to_be_bytes());
-        }
+        cell.write(number, sub, part, &mut out);
     }
     let length = out.len() - 8;
     if length > BODY_LIMIT {

@@ -2,19 +2,14 @@
  * for each how long that took, how much memory the router then keeps, and how much there was at most meanwhile, as
  * `NAME: VALUE UNIT` a line. */
 #define _POSIX_C_SOURCE 200809L
-#include "squall.h"
+#include "shared.h"
 
 #include <malloc.h>
 #include <stdbool.h>
 #include <stdio.h>
-#include <stdlib.h>
 #include <string.h>
-#include <time.h>
 
 enum { BODY = 1048576, RANGES = 4096, PARTS = 10000 };
-
-static const char OLD[] = "{\"plan\":[{\"part\":1,\"from\":[0,0],\"to\":\"end\"}]}";
-static const char NEW[] = "{\"plan\":[{\"part\":2,\"from\":[0,0],\"to\":\"end\"}]}";
 
 static uint8_t frame[BODY + 8];
 static size_t filled;
@@ -144,12 +139,6 @@ static void large_issues(void) {
 
 /* ---- what they cost */
 
-static double now(void) {
-    struct timespec time;
-    clock_gettime(CLOCK_MONOTONIC, &time);
-    return (double)time.tv_sec * 1e3 + (double)time.tv_nsec * 1e-6;
-}
-
 /* A figure of this process in KB, and the file that sets the greatest back to the present one. */
 static long figure(const char *name) {
     FILE *file = fopen("/proc/self/status", "r");
@@ -182,11 +171,7 @@ static double kept(void) {
 /* What a router costs that hears the frame, with a limit or with none. With one it refuses all frames but the last. */
 static void measure(const char *name, void (*make)(void), bool is_limited) {
     make();
-    squall_router *router = malloc(squall_router_size());
-    if (router == NULL) {
-        exit(2);
-    }
-    squall_router_open(1, (const uint8_t *)OLD, sizeof OLD - 1, (const uint8_t *)NEW, sizeof NEW - 1, router);
+    squall_router *router = router_of_two();
     if (is_limited && squall_router_limit(router, 10000, 10000, 10000, 64) != SQUALL_OK) {
         exit(2);
     }
@@ -195,7 +180,7 @@ static void measure(const char *name, void (*make)(void), bool is_limited) {
     long resident = figure("VmRSS:");
     double before = kept(), begun = now();
     uint32_t status = squall_router_hear(router, frame, filled);
-    double took = now() - begun;
+    double took = (now() - begun) * 1e3;
     if (status != SQUALL_OK && !(is_limited && status == SQUALL_FULL)) {
         printf("the frame of %s was refused\n", name);
         exit(1);

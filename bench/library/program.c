@@ -1,35 +1,15 @@
 /* Routes from C by views, in one to four threads with a view each and in eight with one view, and many keys a call,
  * and frames. Prints `NAME: VALUE UNIT` a line. */
 #define _POSIX_C_SOURCE 200809L
-#include "squall.h"
+#include "shared.h"
 
 #include <pthread.h>
 #include <stdio.h>
-#include <stdlib.h>
-#include <string.h>
-#include <time.h>
 
 enum { KEYS = 20000, ROUNDS = 100, MOST_THREADS = 4, SHARING_THREADS = 8, SMALL_FRAMES = 20000, AT_ONCE = 16 };
 
 /* All loads lie below this rank, and so do the keys that are asked for. */
 static const uint64_t REACH = UINT64_C(1) << 62;
-
-static const char OLD[] = "{\"plan\":[{\"part\":1,\"from\":[0,0],\"to\":\"end\"}]}";
-static const char NEW[] = "{\"plan\":[{\"part\":2,\"from\":[0,0],\"to\":\"end\"}]}";
-
-static double now(void) {
-    struct timespec time;
-    clock_gettime(CLOCK_MONOTONIC, &time);
-    return (double)time.tv_sec + (double)time.tv_nsec * 1e-9;
-}
-
-static void *room_of(size_t size) {
-    void *room = malloc(size);
-    if (room == NULL) {
-        exit(2);
-    }
-    return room;
-}
 
 static void demand(int fact) {
     if (!fact) {
@@ -66,8 +46,7 @@ static size_t put_frame(uint8_t *out, uint32_t number, uint32_t cells, uint32_t 
 }
 
 static squall_router *open_router(void) {
-    squall_router *router = room_of(squall_router_size());
-    squall_router_open(1, (const uint8_t *)OLD, strlen(OLD), (const uint8_t *)NEW, strlen(NEW), router);
+    squall_router *router = router_of_two();
     demand(squall_router_status(router) == SQUALL_OK);
     return router;
 }

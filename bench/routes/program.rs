@@ -1,16 +1,11 @@
 //! A plain program that answers `route` lines: it reads lines from its input, keeps what was loaded as a sorted list
 //! of legs, and writes the answers that squall writes. All keys move from partition 1 to partition 2.
 
+#[path = "../shared.rs"]
+mod shared;
+
+use shared::{owner, push_leg, Leg, TOP};
 use std::io::{self, BufRead, BufReader, BufWriter, Write};
-
-const TOP: u64 = 18446744069414584320;
-
-#[derive(Clone, Copy)]
-struct Leg {
-    lo: u64,
-    hi: u64,
-    part: u32,
-}
 
 fn number(word: &[u8]) -> Option<u32> {
     if word.is_empty() || word.len() > 10 {
@@ -36,16 +31,6 @@ fn rank(word: &[u8]) -> Option<u64> {
     Some(u64::from(root) << 32 | u64::from(second))
 }
 
-fn push_leg(out: &mut Vec<Leg>, lo: u64, hi: u64, part: u32) {
-    if lo == hi {
-        return;
-    }
-    match out.last_mut() {
-        Some(last) if last.part == part => last.hi = hi,
-        _ => out.push(Leg { lo, hi, part }),
-    }
-}
-
 fn patch(legs: &mut Vec<Leg>, start: u64, stop: u64, part: u32) {
     let first = legs.partition_point(|leg| leg.hi < start);
     let end = legs.partition_point(|leg| leg.lo <= stop);
@@ -58,10 +43,6 @@ fn patch(legs: &mut Vec<Leg>, start: u64, stop: u64, part: u32) {
         push_leg(&mut fresh, leg.lo.max(stop).min(leg.hi), leg.hi, leg.part);
     }
     legs.splice(first..end, fresh);
-}
-
-fn owner(legs: &[Leg], key: u64) -> u32 {
-    legs[legs.partition_point(|leg| leg.hi <= key)].part
 }
 
 fn words(line: &[u8]) -> impl Iterator<Item = &[u8]> {

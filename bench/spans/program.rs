@@ -1,5 +1,9 @@
 //! The same in Rust, over a sorted vector.
 
+#[path = "../shared.rs"]
+mod shared;
+
+use shared::{has, insert, next, Span, TOP};
 use std::hint::black_box;
 use std::time::Instant;
 
@@ -8,13 +12,6 @@ const LOOKS: u32 = 100000;
 const MANY: u32 = 100000;
 const FEW: u32 = 1000;
 const RANGES: u64 = 4096;
-const TOP: u64 = 18446744069414584320;
-
-#[derive(Clone, Copy)]
-struct Span {
-    lo: u64,
-    hi: u64,
-}
 
 #[derive(Default)]
 struct SpanSet {
@@ -22,25 +19,6 @@ struct SpanSet {
 }
 
 impl SpanSet {
-    fn insert(&mut self, span: Span) {
-        let from = self.spans.partition_point(|s| s.hi < span.lo);
-        let to = self.spans.partition_point(|s| s.lo <= span.hi);
-        if from == to {
-            self.spans.insert(from, span);
-            return;
-        }
-        self.spans[from] = Span {
-            lo: span.lo.min(self.spans[from].lo),
-            hi: span.hi.max(self.spans[to - 1].hi),
-        };
-        self.spans.drain(from + 1..to);
-    }
-
-    fn has(&self, key: u64) -> bool {
-        let at = self.spans.partition_point(|s| s.hi <= key);
-        self.spans.get(at).is_some_and(|s| s.lo <= key)
-    }
-
     fn count(&self) -> u64 {
         self.spans.iter().map(|s| s.hi - s.lo).sum()
     }
@@ -117,12 +95,6 @@ impl SpanSet {
     }
 }
 
-fn next(state: u64) -> u64 {
-    state
-        .wrapping_mul(6364136223846793005)
-        .wrapping_add(1442695040888963407)
-}
-
 fn filled(seed: u64, count: u32) -> SpanSet {
     let mut set = SpanSet::default();
     let mut state = seed;
@@ -130,29 +102,43 @@ fn filled(seed: u64, count: u32) -> SpanSet {
         state = next(state);
         let lo = state >> 24;
         let hi = lo + 1 + ((state >> 4) & 1048575);
-        set.insert(Span { lo, hi });
+        insert(&mut set.spans, Span { lo, hi });
     }
     set
 }
 
-fn found(set: &SpanSet, seed: u64) -> u64 {
-    let mut state = seed;
-    let mut found = 0;
+/// The sum of what is looked up for random keys.
+fn alone(look: impl Fn(u64) -> u64) -> u64 {
+    let mut state = 3;
+    let mut sum = 0;
     for _ in 0..LOOKS {
         state = next(state);
-        found += u64::from(set.has(state >> 24));
+        sum += look(state >> 24);
     }
-    found
+    sum
 }
 
-fn found_in_turn(set: &SpanSet, seed: u64) -> u64 {
-    let mut state = seed;
-    let mut found = 0;
+/// The same for keys each of which is drawn from the sum before.
+fn in_turn(look: impl Fn(u64) -> u64) -> u64 {
+    let mut state = 3;
+    let mut sum = 0;
     for _ in 0..LOOKS {
-        state = next(state ^ found);
-        found += u64::from(set.has(state >> 24));
+        state = next(state ^ sum);
+        sum += look(state >> 24);
     }
-    found
+    sum
+}
+
+fn measure(name: &str, look: impl Fn(u64) -> u64) {
+    for _ in 0..20 {
+        let start = Instant::now();
+        let sum = alone(&look);
+        let alone = start.elapsed().as_micros();
+        let start = Instant::now();
+        let other = in_turn(&look);
+        let turn = start.elapsed().as_micros();
+        println!("{name}: {alone} us, in turn {turn} us ({sum} {other})");
+    }
 }
 
 struct PlanRange {
@@ -192,51 +178,15 @@ fn planned() -> Plan {
     Plan { ranges }
 }
 
-fn owners(plan: &Plan, seed: u64) -> u64 {
-    let mut state = seed;
-    let mut sum = 0;
-    for _ in 0..LOOKS {
-        state = next(state);
-        sum += u64::from(plan.owner(state >> 24));
-    }
-    sum
-}
-
-fn owners_in_turn(plan: &Plan, seed: u64) -> u64 {
-    let mut state = seed;
-    let mut sum = 0;
-    for _ in 0..LOOKS {
-        state = next(state ^ sum);
-        sum += u64::from(plan.owner(state >> 24));
-    }
-    sum
-}
-
 fn measure_set(count: u32) {
     let set = black_box(filled(1, count));
-    for _ in 0..20 {
-        let start = Instant::now();
-        let keys = found(&set, 3);
-        let alone = start.elapsed().as_micros();
-        let start = Instant::now();
-        let others = found_in_turn(&set, 3);
-        let turn = start.elapsed().as_micros();
-        println!("has of {count}: {alone} us, in turn {turn} us ({keys} {others})");
-    }
+    measure(&format!("has of {count}"), |key| u64::from(has(&set.spans, key)));
 }
 
 fn measure_plan() {
     // Else the compiler would lay out a search of just so many ranges.
     let plan = black_box(planned());
-    for _ in 0..20 {
-        let start = Instant::now();
-        let sum = owners(&plan, 3);
-        let alone = start.elapsed().as_micros();
-        let start = Instant::now();
-        let other = owners_in_turn(&plan, 3);
-        let turn = start.elapsed().as_micros();
-        println!("owner: {alone} us, in turn {turn} us ({sum} {other})");
-    }
+    measure("owner", |key| u64::from(plan.owner(key)));
 }
 
 fn measure_large() {

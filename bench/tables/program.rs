@@ -1,26 +1,16 @@
 //! The same in Rust: a sorted list of legs, and a board of nested maps to sorted lists of spans.
 
+#[path = "../shared.rs"]
+mod shared;
+
+use shared::{insert, next, owner, push_leg, Cell, Leg, Span, TOP};
 use std::collections::BTreeMap;
 use std::hint::black_box;
 use std::time::{Duration, Instant};
 
-const TOP: u64 = 18446744069414584320;
 const REACH: u64 = 1 << 62;
 const KEYS: u32 = 200_000;
 const LOADS: u32 = 200;
-
-#[derive(Clone, Copy)]
-struct Span {
-    lo: u64,
-    hi: u64,
-}
-
-#[derive(Clone, Copy)]
-struct Leg {
-    lo: u64,
-    hi: u64,
-    part: u32,
-}
 
 #[derive(Clone, Copy)]
 struct Move {
@@ -31,19 +21,7 @@ struct Move {
     sub: u32,
 }
 
-#[derive(Clone, Default)]
-struct Cell {
-    spans: Vec<Span>,
-    done: bool,
-}
-
 type Board = BTreeMap<u32, BTreeMap<u32, BTreeMap<u32, Cell>>>;
-
-fn next(state: u64) -> u64 {
-    state
-        .wrapping_mul(6364136223846793005)
-        .wrapping_add(1442695040888963407)
-}
 
 fn spans_apart(count: u64) -> Vec<Span> {
     let step = REACH.checked_div(count).unwrap_or(1);
@@ -67,32 +45,8 @@ fn board_of(legs: u64) -> Board {
     board
 }
 
-/// Adds a span to a list of spans that do not touch.
-fn insert(spans: &mut Vec<Span>, mut span: Span) {
-    let from = spans.partition_point(|s| s.hi < span.lo);
-    let to = spans.partition_point(|s| s.lo <= span.hi);
-    if from == to {
-        spans.insert(from, span);
-        return;
-    }
-    span.lo = span.lo.min(spans[from].lo);
-    span.hi = span.hi.max(spans[to - 1].hi);
-    spans[from] = span;
-    spans.drain(from + 1..to);
-}
-
 fn take(board: &mut Board, span: Span) {
     insert(&mut cell_mut(board, 1, 0, 2).spans, span);
-}
-
-fn push_leg(out: &mut Vec<Leg>, lo: u64, hi: u64, part: u32) {
-    if lo == hi {
-        return;
-    }
-    match out.last_mut() {
-        Some(last) if last.part == part => last.hi = hi,
-        _ => out.push(Leg { lo, hi, part }),
-    }
 }
 
 /// The table of moves that rise, over one partition.
@@ -125,10 +79,6 @@ fn build(moves: &[Move], board: &Board) -> Vec<Leg> {
     }
     push_leg(&mut legs, reach, TOP, 1);
     legs
-}
-
-fn owner(legs: &[Leg], key: u64) -> u32 {
-    legs[legs.partition_point(|leg| leg.hi <= key)].part
 }
 
 /// Sends a span to a partition: the legs about it are found by binary searches, and others put in their place.

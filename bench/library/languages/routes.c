@@ -1,35 +1,15 @@
 /* Routes from C: one a call, and 1,000 a call. The words are how many legs there are and the file of a frame.
  * Prints `NAME: VALUE UNIT` a line. */
 #define _POSIX_C_SOURCE 200809L
-#include "squall.h"
+#include "../shared.h"
 
 #include <stdio.h>
-#include <stdlib.h>
-#include <string.h>
-#include <time.h>
 
 enum { KEYS = 1000, ROUNDS = 1000 };
 
 static const uint64_t REACH = UINT64_C(1) << 62;
 
-static const char OLD[] = "{\"plan\":[{\"part\":1,\"from\":[0,0],\"to\":\"end\"}]}";
-static const char NEW[] = "{\"plan\":[{\"part\":2,\"from\":[0,0],\"to\":\"end\"}]}";
-
 static uint8_t frame[SQUALL_FRAME_BYTES];
-
-static double now(void) {
-    struct timespec time;
-    clock_gettime(CLOCK_MONOTONIC, &time);
-    return (double)time.tv_sec + (double)time.tv_nsec * 1e-9;
-}
-
-static void *room_of(size_t size) {
-    void *room = malloc(size);
-    if (room == NULL) {
-        exit(2);
-    }
-    return room;
-}
 
 static double lesser(double a, double b) {
     return a < b ? a : b;
@@ -37,9 +17,8 @@ static double lesser(double a, double b) {
 
 /* A view by which a router that heard the frame routes. */
 static squall_view *view_of(size_t len) {
-    squall_router *router = room_of(squall_router_size());
+    squall_router *router = router_of_two();
     squall_view *view = room_of(squall_view_size());
-    squall_router_open(1, (const uint8_t *)OLD, strlen(OLD), (const uint8_t *)NEW, strlen(NEW), router);
     if (squall_router_hear(router, frame, len) != SQUALL_OK) {
         exit(1);
     }
