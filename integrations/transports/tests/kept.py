@@ -74,7 +74,26 @@ class Kept(CourseTest):
         self.assertTrue(any("bus: " in it.said() for it in nodes[1:]), "nobody missed the server")
         print(f"measured: {merged[-1].split(';')[0]}")
 
-    def writers_and_merges_lose_nothing(self) -> None:
+    def heard(self, bus: Any, wanted: int) -> List[bytes]:
+        """So many frames, and none after them."""
+        frames: List[bytes] = []
+        until("all come", lambda: len(self.more(bus, frames)) >= wanted)
+        self.assertEqual(bus.hear(0.1), [])
+        return frames
+
+    def more(self, bus: Any, frames: List[bytes]) -> List[bytes]:
+        """Adds those that come."""
+        frames += [it.frame for it in bus.hear(0.2)]
+        return frames
+
+
+class Merged(Kept):
+    """What each bus has to pass that keeps frames and merges them."""
+
+    #: Whether frames come in the order in which they were sent.
+    is_ordered = True
+
+    def test_writers_and_merges_lose_nothing(self) -> None:
         """Four writers, two that merge, and a reader, all at once."""
         reader, merged = self.node(), threading.Event()
         parts = [FRAMES[at::4] for at in range(4)]
@@ -92,9 +111,9 @@ class Kept(CourseTest):
         mergers[0].merge()
         self.assertEqual(mergers[1].merge(), (1, 0, 1))
         self.assertGreater(merges, 0)
-        self.holds(wanted)
+        self.assertEqual(self.heard(self.bus(), len(wanted)), wanted)
 
-    def what_is_no_frame_goes_with_a_merge(self) -> None:
+    def test_what_is_no_frame_goes_with_a_merge(self) -> None:
         """Neither readers nor a merge stop at it."""
         bus, node = self.bus(), self.node()
         with Router(1, ANY, ANY) as router:
@@ -104,16 +123,19 @@ class Kept(CourseTest):
         until("both are taken", lambda: node.turn(0.1) and node.taken >= 2)
         self.assertEqual(node.refused, 3)
         self.assertEqual(bus.merge(), (6, 4, 1))
-        self.holds(joined([FRAMES[0], FRAMES[2]]))
+        wanted = joined([FRAMES[0], FRAMES[2]])
+        self.assertEqual(self.heard(self.bus(), len(wanted)), wanted)
 
-    def holds(self, frames: List[bytes]) -> None:
-        """The bus has these, and no others."""
-        bus = self.bus()
-        found: List[bytes] = []
-        until("all come", lambda: len(self.more(bus, found)) >= len(frames))
-        self.assertEqual(found, frames)
-
-    def more(self, bus: Any, frames: List[bytes]) -> List[bytes]:
-        """Adds those that come."""
-        frames += [it.frame for it in bus.hear(0.2)]
-        return frames
+    def test_a_reader_reads_on_from_its_place(self) -> None:
+        """Also if what the bus keeps is younger than the place."""
+        reader, writer = self.bus(), self.bus()
+        writer.send(FRAMES[0])
+        self.assertEqual(self.heard(reader, 1), [FRAMES[0]])
+        reader.close()
+        writer.send(FRAMES[1])
+        late, lost = self.bus(), self.bus()
+        late.place = reader.place
+        self.assertEqual(self.heard(late, 1), [FRAMES[1]])
+        lost.place = 1 << 40
+        found = self.heard(lost, 2)
+        self.assertEqual(found if self.is_ordered else sorted(found), FRAMES[:2])

@@ -92,11 +92,12 @@ class Login(unittest.TestCase):
 
 
 @unittest.skipUnless(find("etcd"), "no etcd")
-class EtcdTest(kept.Kept):
+class EtcdTest(kept.Merged):
     """All over one server. Each test has names of its own."""
 
     server: ClassVar[Etcd]  # type: ignore[misc]
     words = ["--compact"]
+    is_ordered = False
 
     @classmethod
     def setUpClass(cls) -> None:
@@ -120,12 +121,6 @@ class EtcdTest(kept.Kept):
 
     def test_a_reader_reads_on_after_all_mishaps(self) -> None:
         self.works_in_spite_of_mishaps()
-
-    def test_writers_and_merges_lose_nothing(self) -> None:
-        self.writers_and_merges_lose_nothing()
-
-    def test_what_is_no_frame_goes_with_a_merge(self) -> None:
-        self.what_is_no_frame_goes_with_a_merge()
 
     def test_eight_at_once_draw_each_number_once(self) -> None:
         drawn: Dict[int, List[int]] = {at: [] for at in range(8)}
@@ -195,20 +190,6 @@ class EtcdTest(kept.Kept):
         self.assertEqual(self.hear(reader, 1), joined(FRAMES[:150]))
         writer.send(FRAMES[150])
         self.assertEqual(self.hear(reader, 1), [FRAMES[150]])
-
-    def test_a_reader_reads_on_from_its_place(self) -> None:
-        reader, writer = self.bus(), self.bus()
-        writer.send(FRAMES[0])
-        self.assertEqual(self.hear(reader, 1), [FRAMES[0]])
-        reader.close()
-        writer.send(FRAMES[1])
-        late = self.bus()
-        late.place = reader.place
-        self.assertEqual(self.hear(late, 1), [FRAMES[1]])
-        # A server of which the data is older than the place.
-        lost = self.bus()
-        lost.place = 1 << 40
-        self.assertEqual(sorted(self.hear(lost, 2)), FRAMES[:2])
 
     def test_the_longest_frames_fit(self) -> None:
         with Router(1, ANY, ANY) as router:

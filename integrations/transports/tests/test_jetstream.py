@@ -9,7 +9,6 @@ from typing import ClassVar, List
 
 from squall import frame
 from squall_bus import BusError, Message, Node, TooLarge, open_bus
-from squall_bus.bus import Bus
 from squall_bus.pieces import joined
 
 from . import kept
@@ -120,7 +119,7 @@ class Killed(OnThree):
 
 
 @unittest.skipUnless(find("nats-server"), "no nats-server")
-class JetStream(OnThree):
+class JetStream(OnThree, kept.Merged):
     """All over the same three servers."""
 
     cluster: ClassVar[Cluster]
@@ -133,33 +132,6 @@ class JetStream(OnThree):
 
     def setUp(self) -> None:
         self.begin(self.cluster)
-
-    def heard(self, bus: Bus, wanted: int) -> List[bytes]:
-        """So many frames, and none after them."""
-        frames: List[bytes] = []
-        until("all come", lambda: len(self.more(bus, frames)) >= wanted)
-        self.assertEqual(bus.hear(0.1), [])
-        return frames
-
-    def test_writers_and_merges_lose_nothing(self) -> None:
-        self.writers_and_merges_lose_nothing()
-
-    def test_what_is_no_frame_goes_with_a_merge(self) -> None:
-        self.what_is_no_frame_goes_with_a_merge()
-
-    def test_a_reader_reads_on_from_its_place(self) -> None:
-        reader, writer = self.bus(), self.bus()
-        writer.send(FRAMES[0])
-        self.assertEqual(self.heard(reader, 1), [FRAMES[0]])
-        reader.close()
-        writer.send(FRAMES[1])
-        late = self.bus()
-        late.place = reader.place
-        self.assertEqual(self.heard(late, 1), [FRAMES[1]])
-        # A stream that is younger than the place.
-        lost = self.bus()
-        lost.place = 1 << 40
-        self.assertEqual(self.heard(lost, 2), FRAMES[:2])
 
     def test_nodes_of_core_nats_hear_and_are_kept(self) -> None:
         core = Node(open_bus(self.url.replace("jetstream://", "nats://")), plan(OLD))

@@ -23,7 +23,7 @@ IS_THERE = psycopg2 is not None and find("postgres") is not None
 
 
 @unittest.skipUnless(IS_THERE, "no postgres or no psycopg2")
-class PostgresTest(kept.Kept):
+class PostgresTest(kept.Merged):
     """All over one server. Each test has a table of its own."""
 
     server: ClassVar[Postgres]  # type: ignore[misc]
@@ -49,12 +49,6 @@ class PostgresTest(kept.Kept):
 
     def test_a_reader_reads_on_after_all_mishaps(self) -> None:
         self.works_in_spite_of_mishaps()
-
-    def test_writers_and_merges_lose_nothing(self) -> None:
-        self.writers_and_merges_lose_nothing()
-
-    def test_what_is_no_frame_goes_with_a_merge(self) -> None:
-        self.what_is_no_frame_goes_with_a_merge()
 
     def test_ids_rise_in_the_order_of_commits(self) -> None:
         reader, writer = self.bus(), self.bus()
@@ -97,18 +91,6 @@ class PostgresTest(kept.Kept):
         bus = self.bus()
         bus.send(board)
         self.assertEqual(self.bus().hear(1), [Message(board)])
-
-    def test_a_reader_reads_on_from_its_place(self) -> None:
-        reader, writer = self.bus(), self.bus()
-        writer.send(FRAMES[0])
-        self.assertEqual(reader.hear(1), [Message(FRAMES[0])])
-        writer.send(FRAMES[1])
-        late, lost = self.bus(), self.bus()
-        late.place = reader.place
-        self.assertEqual(late.hear(1), [Message(FRAMES[1])])
-        # A table that is older than the place.
-        lost.place = 1000000
-        self.assertEqual(lost.hear(1), [Message(FRAMES[0]), Message(FRAMES[1])])
 
     def test_a_table_that_is_not_there_is_named(self) -> None:
         with self.raw() as connection, connection.cursor() as cursor:
