@@ -1,5 +1,6 @@
 -- The log of a text (this project's logs).
-use Rattle.std.specs.Prelude.{◌≡◌, ◌⊎◌, ℕ, ◌+◌, ◌==◌, Bool, true, not, List, [], ◌∷◌, ◌++◌, map, filter, slice_index, None, Some}
+use Rattle.std.specs.Prelude.{◌≡◌, ◌⊎◌, ℕ, ◌+◌, ◌==◌, ◌||◌, Bool, true, not, List, [], ◌∷◌, ◌++◌, map, filter, slice_index, None, Some, codes}
+use Rattle.std.specs.Str.{bytes_eq}
 use Rattle.squall_protocol.specs.declared.event.Node.{Node}
 use Rattle.squall_judge.specs.declared.log.Entry.{Entry}
 use Rattle.squall_judge.specs.declared.log.Log.{Log}
@@ -9,10 +10,11 @@ use Rattle.squall_cli_audit.specs.LogLines.{node_line, entry_of}
 
 -- ---- lines
 
--- a line says nothing if it has no word, or if its first word begins with #
+-- A line says nothing that is judged if it has no word, if its first word begins with #, or if that is `forget`: that rows were removed is
+-- no event of a world.
 abbrev pub is_remark : List (List ℕ) → Bool
 is_remark [] = true
-is_remark (word ∷ words) = slice_index word 0 == 35
+is_remark (word ∷ words) = (slice_index word 0 == 35) || bytes_eq word (codes "forget")
 
 -- the lines with their numbers, of which the first is n
 abbrev pub numbered : ℕ → List (List ℕ) → List (ℕ × List ℕ)

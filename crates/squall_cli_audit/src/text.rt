@@ -20,12 +20,12 @@ pub(crate) struct ReadLog {
     pub(crate) lines: Vec<u64>,
 }
 
-/// Whether the line has no word, or its first word begins with `#`.
+/// Whether the line has no word, or its first word begins with `#` or is `forget`.
 fn is_remark(line: &[u8]) -> bool
     ensures { result ≡ is_remark (words_of line.now) }
 {
     match next_word(line) {
-        Some((word, _)) => word.first() == Some(&b'#'),
+        Some((word, _)) => word.first() == Some(&b'#') || word == b"forget".as_slice(),
         None => true,
     }
 }
