@@ -11,18 +11,17 @@ use crate::parser::file;
 use clap::Command;
 use std::alloc::{AllocError, Global};
 
-const PLAN: &str =
-    "The keys from FROM to TO, without TO itself, go to the partition PART. A bound is written
-ROOT:SECOND, as 2:0, and the last one end. Of several spans the last one that has a key says where it
-goes. All other keys stay.
+const PLAN: &str = "The keys from FROM on, below TO, go to the partition PART. A bound is written
+ROOT:SECOND, as 2:0, and the last one end. If a key is in several spans, the last one decides.
+All other keys stay.
 
 Example:
   squall plan old.json 2:0 3:0 7 >new.json
   squall plan old.json 2:0 3:0 7 5:0 end 8 >new.json";
 
-const KEY: &str =
-    "The key of a row is written ROOT:SECOND. A name that begins with two numbers, as 2:7:cart, has the
-key 2:7. Any other name has that of a hash: of what is between { and }, or else of all of it.
+const KEY: &str = "The key of a row is written ROOT:SECOND. A name that begins with two numbers, as
+2:7:cart, has the key 2:7. Any other name has that of a hash: of what is between { and }, or else
+of all of it.
 
 Example:
   squall key 2:7:cart user:1 {user:1}:cart";
