@@ -5,7 +5,7 @@ use Rattle.std.proofs.KnownBytes.{Appends-nil, Consumes-nil}
 use Rattle.std.proofs.lemmas.Bool.{false≢true}
 use Rattle.std.proofs.lemmas.List.{append-nil}
 use Rattle.std.proofs.lemmas.Option.{none-some, same_Some}
-use Rattle.std.specs.Prelude.{MatchBool}
+use Rattle.std.specs.Prelude.{MatchBool, if◌then◌else◌}
 use Rattle.std.specs.List.{list_any}
 use Rattle.std.specs.Io.KnownBytes.{Appends, Consumes, IsAtEnd}
 use Rattle.squall_cli_device.specs.States.{SourceState, SinkState}
@@ -15,6 +15,7 @@ use Rattle.squall_cli_lines.specs.declared.RunFault.{RunFault}
 use Rattle.squall_cli_lines.specs.declared.RunFault.TheVariants.{Read, Write, NoMemory}
 use Rattle.squall_cli_lines.specs.Script.{silence}
 use Rattle.squall_cli_command.specs.declared.form.Form.{Form}
+use Rattle.squall_cli_command.specs.declared.stream.Stream.TheVariants.{Keys, Frames}
 use Rattle.squall_cli_command.specs.Line.{Job, check, course, run, race, ask, stream, Asks, AsksForHelp, IsFaulty, shows_help}
 use Rattle.squall_cli_ask.specs.Files.{KnownFile, Unknown, Missing, Holds, Opens, BeginsFile, IsWholeFile, is_input}
 use Rattle.squall_cli_ask.specs.Reads.{Bytes, bytes_of, ReadsFrom, ReadsAll}
@@ -100,13 +101,18 @@ no_answer : (status : ℕ) → status ≡ 4 → GivesAnswer status → ⊥
 no_answer status e (inl less) = omega (arith, e, less)
 no_answer status e (inr five) = omega (arith, e, five)
 
+no_end : (t : Bool) (status : ℕ) → status ≡ 4 → status ≡ (if t then 5 else 0) → ⊥
+no_end true status l h = omega (arith, l, h)
+no_end false status l h = omega (arith, l, h)
+
 pub not_ended : (job : Job) (status : ℕ) → status ≡ 4 → EndsInput job status → ⊥
 not_ended (check form name) status l h = omega (arith, l, h.1)
 not_ended (course form old new) status l h = omega (arith, l, h.1)
 not_ended (run name) status l h = omega (arith, l, h.1)
 not_ended (race name) status l h = omega (arith, l, h.1)
 not_ended (ask inquiry words files) status l h = no_answer status l h.1
-not_ended (stream kind files) status l h = omega (arith, l, h)
+not_ended (stream Keys files) status l h = omega (arith, l, h)
+not_ended (stream (Frames how) files) status l h = no_end how.is_until_complete status l h
 
 -- ---- promptness
 

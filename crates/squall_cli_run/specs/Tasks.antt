@@ -14,7 +14,7 @@ use Rattle.squall_cli_ask.specs.Files.{is_input}
 use Rattle.squall_cli_ask.specs.Reads.{Bytes, ReadsFrom, ReadsAll}
 use Rattle.squall_cli_ask.specs.Told.{status_of}
 use Rattle.squall_cli_ask.specs.Asked.{can_be, files_of, GivesAnswer, IsInquired}
-use Rattle.squall_cli_ask.specs.Followed.{IsFollowed, FollowsPromptly, DrawsStream}
+use Rattle.squall_cli_ask.specs.Followed.{status_read, IsFollowed, FollowsPromptly, DrawsStream}
 use Rattle.squall_cli_scenario.specs.Text.{IsScript}
 use Rattle.squall_cli_run.specs.Output.{check_in, course_in, IsWritten}
 use Rattle.squall_cli_run.specs.Races.{IsRaced}
@@ -129,7 +129,7 @@ EndsInput (course form old new) status = ((is_input old || is_input new) ≡ tru
 EndsInput (run name) status = (is_input name ≡ true) × (status ≡ 0)
 EndsInput (race name) status = (is_input name ≡ true) × (status < 2)
 EndsInput (ask inquiry words files) status = (list_any is_input (files_of inquiry words files) ≡ true) × GivesAnswer status
-EndsInput (stream kind files) status = status ≡ 0
+EndsInput (stream kind files) status = status ≡ status_read kind
 
 -- the task reads a file that is not standard input
 abbrev pub NamesFile : Job → Type 0

@@ -77,7 +77,8 @@ impl Program<'_> {
     /// - 3: a file can't be opened, a read failed or found no end, or a write failed or took nothing;
     ///   `err` says which.
     /// - 4: an allocation failed, as `err` says.
-    /// - 5: the course that `out` shows is not complete, and the status was to say so.
+    /// - 5: the course that `out` shows is not complete, and the status was to say so. Or a watch was to
+    ///   end once the course is complete, and `input` ended before.
     ///
     /// With status 0 or 5 `err` gets no text, and with status 1 only a refusal of a command that writes frames,
     /// a picture or a plan, which then writes nothing to `out`. If it is a terminal and a course is watched, it
