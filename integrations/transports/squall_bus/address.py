@@ -18,18 +18,18 @@ def open_bus(
     """The bus of an address, which is not connected yet.
 
     With `hears_all` it hears each digest of others, as one that waits for them has to. `tls` is
-    for NATS and JetStream. With a `secret` what goes over core NATS is sealed, and what is not is
+    for NATS and JetStream. With a `secret` what goes over these is sealed, and what is not is
     passed over. Raises `ValueError` if the address is none or a file can't be used, and
     `ImportError` if psycopg2 is needed and not installed.
     """
     parts = urlsplit(url)
-    if secret is not None and parts.scheme not in ("nats", "tls"):
-        raise ValueError("a secret is for nats:// and tls://")
+    if secret is not None and parts.scheme not in ("nats", "tls", "jetstream"):
+        raise ValueError("a secret is for nats://, tls:// and jetstream://")
     if parts.scheme in ("nats", "tls"):
         is_wanted = tls.is_wanted or parts.scheme == "tls"
         return NatsBus(parts, hears_all, tls._replace(is_wanted=is_wanted), secret)
     if parts.scheme == "jetstream":
-        return JetStreamBus(parts, tls)
+        return JetStreamBus(parts, tls, secret)
     if tls != Tls():
         raise ValueError("the words of TLS are for nats://, tls:// and jetstream://")
     if parts.scheme == "etcd":

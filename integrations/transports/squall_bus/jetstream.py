@@ -13,6 +13,7 @@ from .bus import BusError, KeepingBus, Merged, Message
 from .nats_link import PATIENCE, NatsLink
 from .nats_text import Op
 from .pieces import cut, is_delta, joined, refuse
+from .seal import Letters
 from .sockets import servers
 from .tls import Tls
 
@@ -39,13 +40,16 @@ class JetStreamBus(KeepingBus):
     A node of core NATS hears the same subject, and what it publishes is kept too.
     """
 
-    def __init__(self, url: SplitResult, tls: Tls = Tls()) -> None:
+    def __init__(self, url: SplitResult, tls: Tls = Tls(), secret: Optional[bytes] = None) -> None:
         """A bus by an address `jetstream://[USER[:PASSWORD]@]HOST[:PORT][,..][/NAME]`.
 
         It connects to the first server, and after a fault to the next one.
+
+        With a secret each message is sealed, and one of anybody else is passed over.
         """
         self._link = NatsLink(url, tls)
         self._name = url.path.strip("/") or "squall"
+        self._letters = Letters(secret, self._name)
         self._stream = self._name.replace(".", "_")
         #: How many servers keep each message.
         self._replicas = 3 if len(servers(url, 0)) >= 3 else 1
@@ -54,7 +58,13 @@ class JetStreamBus(KeepingBus):
         self._consumer: Optional[str] = None
         #: When it was asked last, and how many messages it may still send.
         self._asked, self._left = float("-inf"), 0
-        self._ready: List[Message] = []
+        #: The messages that were read, each with its place.
+        self._ready: List[Tuple[int, Message]] = []
+
+    @property
+    def _subject(self) -> str:
+        """To which frames are sent."""
+        return f"{self._name}.frames"
 
     def connect(self) -> None:
         if not self._link.is_open:
@@ -68,24 +78,29 @@ class JetStreamBus(KeepingBus):
     def setup(self) -> None:
         """Makes the stream, if it is not there: on three servers, if the address names as many."""
         self.connect()
-        config: Json = {"name": self._stream, "subjects": [f"{self._name}.frames"]}
+        config: Json = {"name": self._stream, "subjects": [self._subject]}
         config.update(num_replicas=self._replicas, storage="file", retention="limits")
         self._api(f"STREAM.CREATE.{self._stream}", config)
 
     def send(self, frame: bytes) -> None:
-        pieces = cut(frame, self._link.most)
+        most = self._link.most - self._letters.head
+        pieces = cut(frame, most)
         for it in pieces.fit:
             self._keep(it)
-        refuse(pieces, self._link.most)
+        refuse(pieces, most)
 
     def _keep(self, frame: bytes) -> int:
         """Publishes a frame, and waits until the stream has it: its place there."""
-        answer = self._request(f"{self._name}.frames", frame)
+        answer = self._request(self._subject, self._letters.closed(self._subject, frame))
         if answer.get("stream") != self._stream:
             raise BusError(f"the stream {self._stream} has not taken a frame: {_why(answer)}")
         return int(answer["seq"])
 
     def hear(self, seconds: float) -> List[Message]:
+        return [it for _, it in self._heard(seconds)]
+
+    def _heard(self, seconds: float) -> List[Tuple[int, Message]]:
+        """The same, each message with its place."""
         if self._consumer is None:
             self._begin()
         if not self._ready:
@@ -132,7 +147,9 @@ class JetStreamBus(KeepingBus):
         if consumer != self._consumer or place <= self.place:
             return
         self.place = place
-        self._ready.append(Message(op.payload))
+        frame = self._letters.opened(self._subject, op.payload)
+        if frame is not None:
+            self._ready.append((place, Message(frame)))
         self._left -= 1
         if self._left == 0:
             self._asked = float("-inf")
@@ -149,16 +166,15 @@ class JetStreamBus(KeepingBus):
         return Merged(len(old), len(old) - len(good), len(board))
 
     def _up_to(self, last: int) -> List[bytes]:
-        """All messages of the stream up to this one."""
+        """The frames of the stream up to this place."""
         place, self.place = self.place, 0
         frames: List[bytes] = []
         self._begin()
         while self.place < last:
             before = self.place
-            heard = self.hear(PATIENCE)
-            # A batch may go beyond. Places rise by one.
-            beyond = min(len(heard), max(0, self.place - last))
-            frames += [it.frame for it in heard[: len(heard) - beyond]]
+            heard = self._heard(PATIENCE)
+            # A batch may go beyond.
+            frames += [it.frame for place, it in heard if place <= last]
             if not heard and self.place == before and int(self._state()["messages"]) == 0:
                 break
         self.place, self._consumer = place, None

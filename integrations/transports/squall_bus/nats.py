@@ -2,7 +2,6 @@
 
 from __future__ import annotations
 
-import sys
 from secrets import token_hex
 from typing import List, Optional
 from urllib.parse import SplitResult
@@ -10,7 +9,7 @@ from urllib.parse import SplitResult
 from .bus import Bus, Message
 from .nats_link import NatsLink
 from .pieces import cut, refuse
-from .seal import HEAD, About, Seal
+from .seal import Letters
 from .tls import Tls
 
 
@@ -43,10 +42,12 @@ class NatsBus(Bus):
         self._name = url.path.strip("/") or "squall"
         self._hears_all = hears_all
         self._inbox = f"_INBOX.{token_hex(16)}"
-        self._sender = f"bus-{token_hex(8)}"
-        self._seal = None if secret is None else Seal(secret, self._name)
-        #: How many messages were passed over.
-        self.foreign = 0
+        self._letters = Letters(secret, self._name)
+
+    @property
+    def foreign(self) -> int:
+        """How many messages were passed over."""
+        return self._letters.foreign
 
     def connect(self) -> None:
         if not self._link.is_open:
@@ -70,31 +71,19 @@ class NatsBus(Bus):
         heard = []
         for op in self._link.hear(seconds):
             words = op.rest.split()
-            reply = words[2] if len(words) == 4 else None
-            frame = self._opened(words[0], reply, op.payload)
+            # A stream of JetStream may answer who has sent a frame. That is no matter of others.
+            is_digest = words[0] == f"{self._name}.digests" and len(words) == 4
+            reply = words[2] if is_digest else None
+            frame = self._letters.opened(words[0], op.payload, reply)
             if frame is not None:
                 heard.append(Message(frame, reply, words[0] == self._inbox))
         return heard
 
-    def _opened(self, place: str, reply: Optional[str], data: bytes) -> Optional[bytes]:
-        """The frame of a message, or None if it is passed over."""
-        if self._seal is None:
-            return data
-        opened = self._seal.open(place, reply, data)
-        if opened is not None:
-            return opened[1]
-        if self.foreign == 0:
-            why = "a message is passed over that no program with this --secret-file has sent"
-            print(f"bus: {why}", file=sys.stderr, flush=True)
-        self.foreign += 1
-        return None
-
     def _publish(self, place: str, frame: bytes, reply: Optional[str] = None) -> None:
         """Publishes a frame, in pieces if the server takes none of its length."""
-        most = self._link.most - (HEAD if self._seal else 0)
+        most = self._link.most - self._letters.head
         subject = place if reply is None else f"{place} {reply}"
         pieces = cut(frame, most)
         for it in pieces.fit:
-            about = About(place, self._sender, reply)
-            self._link.publish(subject, self._seal.envelope(about, it) if self._seal else it)
+            self._link.publish(subject, self._letters.closed(place, it, reply))
         refuse(pieces, most)

@@ -6,8 +6,10 @@ PROTOCOL.md says what it is made of. The programs for Redis have the same.
 from __future__ import annotations
 
 import hmac
+import sys
 from hashlib import sha256
 from pathlib import Path
+from secrets import token_hex
 from typing import NamedTuple, Optional, Tuple
 
 #: The most bytes that come before a frame: the code, the length of the sender's name, and the name.
@@ -62,6 +64,38 @@ class Seal:
         right = self.code(About(place, sender, reply), data[end:])
         is_right = len(data) >= end and hmac.compare_digest(right, data[:_CODE])
         return (sender, data[end:]) if is_right else None
+
+
+class Letters:
+    """Frames as they go over NATS: sealed if there is a secret, and else as they are."""
+
+    def __init__(self, secret: Optional[bytes], name: str) -> None:
+        """Those of the deployment of that secret and name."""
+        self._seal = None if secret is None else Seal(secret, name)
+        self._sender = f"bus-{token_hex(8)}"
+        #: How many bytes may come before a frame.
+        self.head = 0 if secret is None else HEAD
+        #: How many messages were passed over.
+        self.foreign = 0
+
+    def closed(self, place: str, frame: bytes, reply: Optional[str] = None) -> bytes:
+        """The bytes of a message of a frame to a subject."""
+        if self._seal is None:
+            return frame
+        return self._seal.envelope(About(place, self._sender, reply), frame)
+
+    def opened(self, place: str, data: bytes, reply: Optional[str] = None) -> Optional[bytes]:
+        """The frame of a message, or None if it is passed over."""
+        if self._seal is None:
+            return data
+        opened = self._seal.open(place, reply, data)
+        if opened is not None:
+            return opened[1]
+        if self.foreign == 0:
+            why = "a message is passed over that no program with this --secret-file has sent"
+            print(f"bus: {why}", file=sys.stderr, flush=True)
+        self.foreign += 1
+        return None
 
 
 def read_secret(path: Path) -> bytes:

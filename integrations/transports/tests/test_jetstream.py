@@ -5,10 +5,11 @@ from __future__ import annotations
 import time
 import unittest
 from itertools import count
-from typing import ClassVar, List
+from typing import ClassVar, List, Optional
 
 from squall import frame
 from squall_bus import BusError, Message, Node, TooLarge, open_bus
+from squall_bus.bus import KeepingBus, Merged
 from squall_bus.pieces import joined
 
 from . import kept
@@ -142,6 +143,32 @@ class JetStream(OnThree, kept.Merged):
         until("it hears", lambda: core.turn(0.1))
         core.tell(FRAMES[1])
         self.assertEqual(self.heard(reader, 2), FRAMES[:2])
+
+    def test_what_is_not_sealed_is_passed_over(self) -> None:
+        secrets = (b"a" * 16, b"a" * 16, b"b" * 16, None)
+        one, same, other, plain = (self.sealed(it) for it in secrets)
+        core = open_bus(self.url.replace("jetstream://", "nats://"), secret=b"a" * 16)
+        self.addCleanup(core.close)
+        core.connect()
+        for stranger in (other, plain):
+            stranger.send(FRAMES[0])
+        for data in FRAMES[1:3]:
+            one.send(data)
+        self.assertEqual(self.heard(same, 2), FRAMES[1:3])
+        self.assertEqual(self.heard(other, 1), FRAMES[:1])
+        # Over core NATS it is no matter that the stream has answered the sender.
+        self.assertEqual(self.heard(core, 2), FRAMES[1:3])
+        # What others have sent goes with a merge, and nothing else.
+        self.assertEqual(one.merge(), Merged(2, 0, 1))
+        self.assertEqual(self.heard(self.sealed(b"a" * 16), 1), joined(FRAMES[1:3]))
+
+    def sealed(self, secret: Optional[bytes]) -> KeepingBus:
+        """A bus with that secret."""
+        bus = open_bus(self.url, secret=secret)
+        self.addCleanup(bus.close)
+        assert isinstance(bus, KeepingBus)
+        bus.connect()
+        return bus
 
     def test_faults_are_named(self) -> None:
         bus = self.bus()
