@@ -130,22 +130,32 @@ is_ready_or_ended() {
 # Keys move while proxies, movers and a program in Python hear each other by TLS over NATS. The server asks for certificates.
 # One address begins with tls://, and another one with nats://. A third program has the option alone.
 test_tls_over_nats() {
-  local certs log port nats id follower words listen=() secure=() mover_words=() limits=() settle=10000
+  works_by_tls_over tls://
+}
+
+# The same over JetStream. Nothing but the option says there that nothing may go in the clear.
+test_tls_over_jetstream() {
+  works_by_tls_over jetstream:// --tls-bus
+}
+
+works_by_tls_over() {
+  local scheme=$1 own=("${@:2}") streams=() certs log port nats id follower words listen=() secure=() mover_words=() limits=() settle=10000
   command -v nats-server > /dev/null || { echo "no nats-server here"; return 1; }
   use_tls || return
   words=(--tls-ca "$certs/ca.pem" --tls-own-cert "$certs/own.pem" --tls-own-key "$certs/own.key")
-  listen=(--port) secure=() mover_words=("${words[@]}") limits=("${words[@]}")
-  run_secure_nats --tlsverify --tlscacert "$certs/ca.pem" --tlscert "$certs/server.pem" --tlskey "$certs/server.key" || return
+  listen=(--port) secure=() mover_words=("${words[@]}" "${own[@]}") limits=("${words[@]}" "${own[@]}")
+  [ ${#own[@]} -eq 0 ] || streams=(-js -sd "$run/streams")
+  run_secure_nats --tlsverify --tlscacert "$certs/ca.pem" --tlscert "$certs/server.pem" --tlskey "$certs/server.key" "${streams[@]}" || return
   local at=127.0.0.1:$port said=$log
-  nats=tls://$at
+  nats=$scheme$at
   deploy || return
-  launch "$run" follow env PYTHONPATH="$top/bindings/python" python3 "$top/integrations/transports/squall-bus" follow "$nats" \
+  launch "$run" follow env PYTHONPATH="$top/bindings/python" python3 "$top/integrations/transports/squall-bus" follow "tls://$at" \
     --secret-file "$secret" --first old.json --key 400:0 "${words[@]}"
   follower=$id
-  start_node --bus "nats://$at" --tls-bus --board board "${words[@]}"
+  start_node --bus "${nats/#tls:/nats:}" --tls-bus --board board "${words[@]}"
   start_load 20000 --pause 300
   sleep 0.2
-  move 2 old new && move 3 new old --bus "nats://$at" && move 4 old new || return
+  move 2 old new && move 3 new old --bus "${nats/#tls:/nats:}" && move 4 old new || return
   end_load && has_moved && agrees 3 4 || return
   # Nobody has spoken to the server in the clear.
   ! grep "TLS handshake error" "$said" || return

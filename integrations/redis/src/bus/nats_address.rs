@@ -1,11 +1,25 @@
-//! Addresses of NATS servers, as `--bus` has them.
+//! Addresses of NATS servers, as `--bus` has them, with JetStream or without.
 
 use crate::fault::{Done, Fault};
 
 /// The port of a server that has none in its address.
 const PORT: &str = "4222";
-/// How an address begins, and whether nothing may go in the clear then.
-const SCHEMES: [(&str, bool); 2] = [("nats://", false), ("tls://", true)];
+/// How an address begins, who keeps frames then, and whether nothing may go in the clear.
+const SCHEMES: [(&str, Keeper, bool); 3] = [
+    ("nats://", Keeper::Nobody, false),
+    ("tls://", Keeper::Nobody, true),
+    ("jetstream://", Keeper::Stream, false),
+];
+/// How many servers keep each frame, if the address names as many.
+const COPIES: usize = 3;
+
+/// Who keeps the frames of a bus.
+#[derive(Clone, Copy, Debug, PartialEq)]
+pub enum Keeper {
+    Nobody,
+    /// A stream of JetStream.
+    Stream,
+}
 
 /// What an address says.
 pub struct Address {
@@ -17,18 +31,22 @@ pub struct Address {
     pub login: String,
     /// Whether nothing may go in the clear, also if the server would take it.
     pub is_secure: bool,
+    /// Who keeps frames.
+    pub keeper: Keeper,
 }
 
 impl Address {
-    /// Reads an address `nats://[USER@]HOST[:PORT][,HOST[:PORT]..][/NAME]`, or the same with `tls://`.
-    /// None if it begins with neither. A password without a user is a token.
+    /// Reads an address `nats://[USER@]HOST[:PORT][,HOST[:PORT]..][/NAME]`, or the same with `tls://` or `jetstream://`.
+    /// None if it begins with none of them. A password without a user is a token.
     ///
     /// # Errors
     ///
     /// The address has another form.
     pub fn read(addr: &str, name: &str, password: Option<&str>) -> Done<Option<Address>> {
-        let strip = |(scheme, is_secure)| addr.strip_prefix(scheme).map(|rest| (rest, is_secure));
-        let Some((rest, is_secure)) = SCHEMES.into_iter().find_map(strip) else {
+        let strip = |(scheme, keeper, is_secure)| {
+            addr.strip_prefix(scheme).map(|rest| (scheme, rest, keeper, is_secure))
+        };
+        let Some((scheme, rest, keeper, is_secure)) = SCHEMES.into_iter().find_map(strip) else {
             return Ok(None);
         };
         let rest = rest.trim_end_matches('/');
@@ -39,7 +57,7 @@ impl Address {
         };
         if name.is_empty() || name.contains(|it: char| it <= ' ' || "*>".contains(it)) || !are_hosts(hosts) {
             return Err(Fault::new(format!(
-                "--bus {addr}: not of the form nats://[USER@]HOST[:PORT],..[/NAME]"
+                "--bus {addr}: not of the form {scheme}[USER@]HOST[:PORT],..[/NAME]"
             )));
         }
         Ok(Some(Address {
@@ -47,7 +65,17 @@ impl Address {
             name: name.to_string(),
             login: login(user, password)?,
             is_secure,
+            keeper,
         }))
+    }
+
+    /// How many servers keep each frame.
+    pub fn copies(&self) -> usize {
+        if self.servers.len() < COPIES {
+            1
+        } else {
+            COPIES
+        }
     }
 }
 
@@ -111,6 +139,10 @@ mod tests {
         assert_eq!(address.servers, ["[::1]:4222", "[::1]:7"]);
         assert_eq!(address.name, "squall");
         assert!(address.is_secure);
+        assert_eq!((address.keeper, address.copies()), (Keeper::Nobody, 1));
+        let address = read("jetstream://me@a,b,c:7/shop.eu", Some("pw"));
+        assert_eq!((address.keeper, address.copies(), address.is_secure), (Keeper::Stream, 3, false));
+        assert_eq!((address.servers[2].as_str(), address.name.as_str()), ("c:7", "shop.eu"));
         assert!(Address::read("127.0.0.1:6379", "squall", None).unwrap().is_none());
     }
 
@@ -123,7 +155,15 @@ mod tests {
 
     #[test]
     fn wrong_addresses_are_refused() {
-        for wrong in ["nats://", "tls://me@", "nats://a/b c", "nats://a/x>", "nats://a,,b", "nats://:4222"] {
+        for wrong in [
+            "nats://",
+            "jetstream://",
+            "tls://me@",
+            "nats://a/b c",
+            "nats://a/x>",
+            "nats://a,,b",
+            "nats://:4222",
+        ] {
             let fault = Address::read(wrong, "squall", None).err().unwrap().to_string();
             assert!(fault.contains("not of the form"), "{wrong}: {fault}");
         }

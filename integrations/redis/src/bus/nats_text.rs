@@ -8,11 +8,26 @@ const PAYLOAD: usize = 64 << 20;
 
 /// A line, or a message.
 #[derive(Debug, PartialEq)]
-pub enum Op<'a> {
+pub enum Op {
     /// The first word: INFO, PING, PONG, +OK or -ERR, and the rest of the line.
-    Line { name: &'static str, rest: String },
-    /// A message: the subscription that it belongs to, the subject to which a reply goes, and its bytes.
-    Message { sid: &'a str, reply: Option<String>, payload: Vec<u8> },
+    Line {
+        name: &'static str,
+        rest: String,
+    },
+    Message(Message),
+}
+
+/// A message.
+#[derive(Debug, PartialEq)]
+pub struct Message {
+    /// To which it was sent.
+    pub subject: String,
+    /// The subscription that it belongs to.
+    pub sid: u64,
+    /// The subject to which a reply goes.
+    pub reply: Option<String>,
+    /// Its bytes.
+    pub payload: Vec<u8>,
 }
 
 /// The first words of lines.
@@ -23,8 +38,6 @@ const NAMES: [&str; 5] = ["INFO", "PING", "PONG", "+OK", "-ERR"];
 pub struct Parser {
     kept: Vec<u8>,
     at: usize,
-    /// The subscription of the last message.
-    sid: String,
 }
 
 impl Parser {
@@ -45,7 +58,7 @@ impl Parser {
     /// # Errors
     ///
     /// The bytes are not of this protocol.
-    pub fn next(&mut self) -> Done<Option<Op<'_>>> {
+    pub fn next(&mut self) -> Done<Option<Op>> {
         let rest = &self.kept[self.at..];
         let Some(end) = rest.windows(2).take(LINE).position(|two| two == b"\r\n") else {
             return if rest.len() < LINE { Ok(None) } else { Err(Fault::new("a line without an end")) };
@@ -60,19 +73,19 @@ impl Parser {
         }
         let wrong = || Fault::new(format!("the server sent {line:.200}"));
         let words: Vec<&str> = words.split_whitespace().collect();
-        let (sid, reply, len) = match words[..] {
-            [_, sid, len] => (sid, None, len),
-            [_, sid, reply, len] => (sid, Some(reply.to_string()), len),
+        let (subject, sid, reply, len) = match words[..] {
+            [subject, sid, len] => (subject.to_string(), sid, None, len),
+            [subject, sid, reply, len] => (subject.to_string(), sid, Some(reply.to_string()), len),
             _ => return Err(wrong()),
         };
+        let sid = sid.parse().map_err(|_| wrong())?;
         let len = len.parse().ok().filter(|&len: &usize| len <= PAYLOAD).ok_or_else(wrong)?;
         let Some(bytes) = rest.get(end + 2..end + 2 + len + 2) else {
             return Ok(None);
         };
         let payload = bytes.strip_suffix(b"\r\n").ok_or_else(wrong)?.to_vec();
-        self.sid = sid.to_string();
         self.at += end + 2 + len + 2;
-        Ok(Some(Op::Message { sid: &self.sid, reply, payload }))
+        Ok(Some(Op::Message(Message { subject, sid, reply, payload })))
     }
 }
 
@@ -84,13 +97,18 @@ pub fn message(out: &mut Vec<u8>, subject: &str, reply: Option<&str>, payload: &
     out.extend_from_slice(b"\r\n");
 }
 
-/// The number that a member of INFO has.
+/// The number that a member of an object of JSON has.
 pub fn number_of(info: &str, name: &str) -> Option<usize> {
     let digits: String = member(info, name)?.chars().take_while(char::is_ascii_digit).collect();
     digits.parse().ok()
 }
 
-/// Whether a member of INFO is true.
+/// The text that a member has, up to the first quote in it.
+pub fn text_of<'a>(info: &'a str, name: &str) -> Option<&'a str> {
+    member(info, name)?.strip_prefix('"')?.split(['"', '\\']).next()
+}
+
+/// Whether a member is true.
 pub fn is_set(info: &str, name: &str) -> bool {
     member(info, name).is_some_and(|value| value.starts_with("true"))
 }
@@ -123,7 +141,10 @@ mod tests {
         whole.feed(stream);
         let wanted = all(&mut whole);
         assert_eq!(wanted.len(), 5);
-        assert!(wanted[2].contains("sid: \"1\"") && wanted[2].contains("[13, 10, 120]"), "{wanted:?}");
+        assert!(
+            wanted[2].contains("subject: \"a.b\", sid: 1") && wanted[2].contains("[13, 10, 120]"),
+            "{wanted:?}"
+        );
         assert!(wanted[3].contains("Some(\"reply.to\")"), "{wanted:?}");
         for len in 1..stream.len() {
             let mut parser = Parser::default();
@@ -139,9 +160,14 @@ mod tests {
     #[test]
     fn other_bytes_are_refused() {
         let long = [b'x'; LINE];
-        for wrong in
-            [b"HTTP/1.1 400\r\n".as_slice(), b"MSG a 1\r\n", b"MSG a 1 x\r\n", b"MSG a 1 1\r\nxyz", &long]
-        {
+        for wrong in [
+            b"HTTP/1.1 400\r\n".as_slice(),
+            b"MSG a 1\r\n",
+            b"MSG a x 1\r\n",
+            b"MSG a 1 x\r\n",
+            b"MSG a 1 1\r\nxyz",
+            &long,
+        ] {
             let mut parser = Parser::default();
             parser.feed(wrong);
             assert!(parser.next().is_err());
@@ -154,6 +180,8 @@ mod tests {
         assert_eq!(number_of(info, "max_payload"), Some(1_048_576));
         assert_eq!(number_of(info, "tls_required"), None);
         assert_eq!(number_of(info, "tls"), None);
+        assert_eq!(text_of(info, "server_id"), Some("tls_required"));
+        assert_eq!((text_of(info, "max_payload"), text_of(r#"{"a":"b\"c"}"#, "a")), (None, Some("b")));
         assert!(is_set(info, "tls_required"));
         assert!(!is_set(info, "auth_required") && !is_set(info, "tls_available"));
         assert!(!is_set(r#"{"name":"\"tls_required\":true"}"#, "tls_required"));

@@ -1,7 +1,7 @@
 //! A node of the bus: a router that hears all others.
 
 use super::agenda::{Agenda, Answer, AT_ONCE};
-use super::carrier::Carrier;
+use super::carrier::{self, Bus};
 use super::entry::{Entry, Heard};
 use super::peers::Peers;
 use super::reach::{Reach, Side};
@@ -30,7 +30,7 @@ const STEADY: Duration = Duration::from_secs(1);
 /// What a node needs to join.
 pub struct Options {
     /// What carries frames.
-    pub carrier: Carrier,
+    pub bus: Box<dyn Bus>,
     /// What the node is, as `proxy`. Its name also has digits by chance.
     pub kind: &'static str,
     /// The text of the plan of course 1.
@@ -45,9 +45,9 @@ impl Options {
     /// What the words of the command line say of a node of that kind, which knows nothing from before.
     pub fn of(args: &Args, kind: &'static str) -> Done<Options> {
         // A mover waits for all to know what it has said.
-        let carrier = Carrier::of(args, kind == "mover")?;
+        let bus = carrier::open(args, kind == "mover")?;
         let diary = Diary::of(args, "router")?;
-        Ok(Options { carrier, kind, plan: Plan::of(args, "first")?.text, known: Vec::new(), diary })
+        Ok(Options { bus, kind, plan: Plan::of(args, "first")?.text, known: Vec::new(), diary })
     }
 }
 
@@ -70,7 +70,7 @@ pub struct Counts {
 
 /// A node of the bus, which hears and answers in threads of its own.
 pub struct Node {
-    pub(super) carrier: Carrier,
+    pub(super) bus: Box<dyn Bus>,
     pub(super) name: String,
     router: Mutex<Router>,
     /// The newest view. `views` is how many there were.
@@ -107,7 +107,7 @@ impl Node {
         options.known.iter().try_for_each(|frame| router.hear(frame))?;
         let view = router.view()?;
         let node = Arc::new(Node {
-            carrier: options.carrier,
+            bus: options.bus,
             name: format!("{}-{:016x}", options.kind, Dice::fresh().draw()),
             router: Mutex::new(router),
             view: Mutex::new(view),
@@ -149,7 +149,7 @@ impl Node {
 
     /// Reads the files of certificates again.
     pub fn renew(&self, args: &Args) -> Done<()> {
-        self.carrier.renew(args)
+        self.bus.renew(args)
     }
 
     /// Its name on the bus.
@@ -238,7 +238,7 @@ impl Node {
         make: impl Fn(&mut Router, usize) -> Result<Vec<Vec<u8>>, Error>,
     ) -> Result<Vec<Vec<u8>>, Error> {
         let mut router = lock(&self.router);
-        match make(&mut router, self.carrier.most()) {
+        match make(&mut router, self.bus.most()) {
             Err(Error::TooLong) => make(&mut router, usize::MAX),
             frames => frames,
         }
@@ -257,7 +257,7 @@ impl Node {
 
     /// Hears others, for ever.
     fn hear(&self) -> Done<()> {
-        let mut ears = self.carrier.listen()?;
+        let mut ears = self.bus.listen()?;
         let began = Instant::now();
         let mut dice = Dice::fresh();
         let misses = faults::misses();
@@ -334,10 +334,10 @@ impl Node {
             let due = self.agenda.wait(shown, pause);
             if shown.elapsed() >= AT_ONCE && (due.is_none() || shown.elapsed() >= ROUND) {
                 let digest = self.within(|router, limit| Ok(router.digest_within(limit)?.collect()))?;
-                self.carrier.show(&self.name, &digest)?;
+                self.bus.show(&self.name, &digest)?;
                 (shown, pause) = (Instant::now(), ROUND);
-                self.reach.find(Side::Tell);
                 self.pay()?;
+                self.reach.find(Side::Tell);
             }
             for answer in due.into_iter().flatten() {
                 self.repair(&answer)?;
@@ -360,6 +360,6 @@ impl Node {
             repaired => repaired?,
         };
         self.counts.repairs.fetch_add(repair.len() as u64, Relaxed);
-        self.carrier.write(&self.name, &repair, Some(&answer.id))
+        self.bus.write(&self.name, &repair, Some(&answer.id))
     }
 }

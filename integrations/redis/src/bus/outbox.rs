@@ -38,7 +38,7 @@ impl Node {
     pub fn tell_frames(&self, frames: &[Vec<u8>]) -> Done<()> {
         self.learn(frames)?;
         self.give(|| {
-            self.carrier.write(&self.name, frames, None)?;
+            self.bus.write(&self.name, frames, None)?;
             self.reach.take();
             Ok(())
         })
@@ -72,7 +72,7 @@ impl Node {
             return Ok(());
         };
         let frames = self.within(|router, limit| Ok(router.board_within(limit)?.collect()))?;
-        self.carrier.write(&self.name, &frames, None)?;
+        self.bus.write(&self.name, &frames, None)?;
         self.reach.pay(debt);
         Ok(())
     }
