@@ -5,7 +5,6 @@ use crate::ffi::{self, RawCourse};
 use crate::frame;
 use crate::key::{Leg, Rank, Span};
 use crate::room::Room;
-use crate::told::text_of;
 
 /// A numbered change from an old plan to a new one: which keys move, from which partition to which.
 ///
@@ -188,11 +187,10 @@ impl Course {
     ///
     /// [`Error::NoMemory`].
     pub fn old_text(&self) -> Result<String, Error> {
-        let bytes = frame::written(Error::NoMemory, |out, room| {
+        frame::text(Error::NoMemory, |out, room| {
             // SAFETY: the course was opened, and the places are writable.
             unsafe { ffi::squall_course_old_text(self.room.get(), out, room) }
-        })?;
-        Ok(text_of(bytes))
+        })
     }
 
     /// The new plan, as [`Course::old_text`] is the old one.
@@ -201,11 +199,10 @@ impl Course {
     ///
     /// [`Error::NoMemory`].
     pub fn new_text(&self) -> Result<String, Error> {
-        let bytes = frame::written(Error::NoMemory, |out, room| {
+        frame::text(Error::NoMemory, |out, room| {
             // SAFETY: the course was opened, and the places are writable.
             unsafe { ffi::squall_course_new_text(self.room.get(), out, room) }
-        })?;
-        Ok(text_of(bytes))
+        })
     }
 
     /// The plan of where the course leaves the keys if it ends early, as a JSON text:
@@ -233,12 +230,11 @@ impl Course {
     /// [`Error::Limit`] if a span has no keys or ends above [`Rank::END`], or if the plan would have more
     /// than 4096 ranges; [`Error::NoMemory`].
     pub fn left(&self, loaded: &[Span]) -> Result<String, Error> {
-        let bytes = frame::written(Error::Limit, |out, room| {
+        frame::text(Error::Limit, |out, room| {
             let (spans, count) = (loaded.as_ptr(), loaded.len());
             // SAFETY: the course was opened, the spans are readable, and the places are writable.
             unsafe { ffi::squall_course_left(self.room.get(), spans, count, out, room) }
-        })?;
-        Ok(text_of(bytes))
+        })
     }
 
     /// The frame of the report that this course was issued: a router that hears it knows the course.

@@ -73,3 +73,9 @@ pub(crate) fn written(
         }
     }
 }
+
+/// The same if it is a text, which is ASCII.
+pub(crate) fn text(none: Error, write: impl Fn(*mut u8, usize) -> usize) -> Result<String, Error> {
+    let bytes = written(none, write)?;
+    Ok(String::from_utf8(bytes).expect("a text of the library is ASCII"))
+}

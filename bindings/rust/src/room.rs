@@ -17,70 +17,29 @@ pub(crate) trait Handle: Sized {
     unsafe fn close(at: *mut Self);
 }
 
-impl Handle for RawRouter {
-    fn size() -> usize {
-        ffi::squall_router_size()
-    }
+/// Says by which functions of the library the size of a room is asked, and what is in it is closed.
+macro_rules! handles {
+    ($($raw:ty: $size:ident, $close:ident;)*) => {
+        $(impl Handle for $raw {
+            fn size() -> usize {
+                ffi::$size()
+            }
 
-    unsafe fn close(at: *mut RawRouter) {
-        // SAFETY: the caller keeps it.
-        unsafe { ffi::squall_router_close(at) }
-    }
+            unsafe fn close(at: *mut $raw) {
+                // SAFETY: the caller keeps it.
+                unsafe { ffi::$close(at) }
+            }
+        })*
+    };
 }
 
-impl Handle for RawView {
-    fn size() -> usize {
-        ffi::squall_view_size()
-    }
-
-    unsafe fn close(at: *mut RawView) {
-        // SAFETY: the caller keeps it.
-        unsafe { ffi::squall_view_close(at) }
-    }
-}
-
-impl Handle for RawErrand {
-    fn size() -> usize {
-        ffi::squall_errand_size()
-    }
-
-    unsafe fn close(at: *mut RawErrand) {
-        // SAFETY: the caller keeps it.
-        unsafe { ffi::squall_errand_close(at) }
-    }
-}
-
-impl Handle for RawCourse {
-    fn size() -> usize {
-        ffi::squall_course_size()
-    }
-
-    unsafe fn close(at: *mut RawCourse) {
-        // SAFETY: the caller keeps it.
-        unsafe { ffi::squall_course_close(at) }
-    }
-}
-
-impl Handle for RawPart {
-    fn size() -> usize {
-        ffi::squall_part_size()
-    }
-
-    unsafe fn close(at: *mut RawPart) {
-        // SAFETY: the caller keeps it.
-        unsafe { ffi::squall_part_close(at) }
-    }
-}
-
-impl Handle for RawLeader {
-    fn size() -> usize {
-        ffi::squall_leader_size()
-    }
-
-    unsafe fn close(at: *mut RawLeader) {
-        // SAFETY: the caller keeps it.
-        unsafe { ffi::squall_leader_close(at) }
-    }
+handles! {
+    RawRouter: squall_router_size, squall_router_close;
+    RawView: squall_view_size, squall_view_close;
+    RawErrand: squall_errand_size, squall_errand_close;
+    RawCourse: squall_course_size, squall_course_close;
+    RawPart: squall_part_size, squall_part_close;
+    RawLeader: squall_leader_size, squall_leader_close;
 }
 
 /// As much of a room as its alignment.

@@ -83,11 +83,10 @@ impl Router {
     ///
     /// [`Error::NoMemory`].
     pub fn status_text(&self) -> Result<String, Error> {
-        let bytes = frame::written(Error::NoMemory, |out, room| {
+        frame::text(Error::NoMemory, |out, room| {
             // SAFETY: the router was opened, and the places are writable.
             unsafe { ffi::squall_router_status_text(self.room.get(), out, room) }
-        })?;
-        Ok(text_of(bytes))
+        })
     }
 
     /// A picture of how far its course has come, in SVG.
@@ -96,17 +95,11 @@ impl Router {
     ///
     /// [`Error::NoMemory`].
     pub fn picture(&self) -> Result<String, Error> {
-        let bytes = frame::written(Error::NoMemory, |out, room| {
+        frame::text(Error::NoMemory, |out, room| {
             // SAFETY: the router was opened, and the places are writable.
             unsafe { ffi::squall_router_picture(self.room.get(), out, room) }
-        })?;
-        Ok(text_of(bytes))
+        })
     }
-}
-
-/// The text of these bytes, which are ASCII.
-pub(crate) fn text_of(bytes: Vec<u8>) -> String {
-    String::from_utf8(bytes).expect("a text of the library is ASCII")
 }
 
 impl View {
