@@ -73,11 +73,8 @@ end_is_fine how (Err Read) status e until at = absurd (other_end how 3 status e 
 end_is_fine how (Err Write) status e until at = absurd (other_end how 3 status e at (λ z. omega (arith, z)) (λ z. omega (arith, z)))
 end_is_fine how (Err NoMemory) status e until at = absurd (other_end how 4 status e at (λ z. omega (arith, z)) (λ z. omega (arith, z)))
 
-end_is_no : (how : WatchAsk) (n status : ℕ) → status ≡ status_at_end how → status ≡ n → n ≢ 0 → n ≢ 5 → ⊥
-end_is_no how n status at e not_zero not_five = other_end how n status e at not_zero not_five
-
 watch_device_fails : (how : WatchAsk) (r : Result WatchEnd RunFault) (status : ℕ) → status ≡ status_of_watch how r → status ≡ 3 → (r ≡ Err Read) ⊎ (r ≡ Err Write)
-watch_device_fails how (Ok watch.Fine) status e z = absurd (end_is_no how 3 status e z (λ n. omega (arith, n)) (λ n. omega (arith, n)))
+watch_device_fails how (Ok watch.Fine) status e z = absurd (other_end how 3 status z e (λ n. omega (arith, n)) (λ n. omega (arith, n)))
 watch_device_fails how (Ok watch.Refused) status e z = absurd (omega (arith, e, z))
 watch_device_fails how (Ok watch.Complete) status e z = absurd (omega (arith, e, z))
 watch_device_fails how (Err Read) status e z = inl refl
@@ -85,7 +82,7 @@ watch_device_fails how (Err Write) status e z = inr refl
 watch_device_fails how (Err NoMemory) status e z = absurd (omega (arith, e, z))
 
 pub no_bad_watch : (how : WatchAsk) (r : Result WatchEnd RunFault) (status : ℕ) → status ≡ status_of_watch how r → status ≢ 2
-no_bad_watch how (Ok watch.Fine) status e z = end_is_no how 2 status e z (λ n. omega (arith, n)) (λ n. omega (arith, n))
+no_bad_watch how (Ok watch.Fine) status e z = other_end how 2 status z e (λ n. omega (arith, n)) (λ n. omega (arith, n))
 no_bad_watch how (Ok watch.Refused) status e z = omega (arith, e, z)
 no_bad_watch how (Ok watch.Complete) status e z = omega (arith, e, z)
 no_bad_watch how (Err Read) status e z = omega (arith, e, z)
