@@ -14,7 +14,10 @@ pub(crate) const LEADER: (&str, &str) = (
 /// Partition 1 gives its keys in two chunks.
 pub(crate) const FIRST: (&str, &str) = (
     "p1",
-    "node part 1\nheard opened 1 0\nserve 2:5 after 0 held\ngive 2:0 2:500 to 3 course 1 sub 0\nserve 2:5 after 0 moved 3 1\ngive 2:500 3:0 to 3 course 1 sub 0\n",
+    concat!(
+        "node part 1\nheard opened 1 0\nserve 2:5 after 0 held\ngive 2:0 2:500 to 3 course 1 sub 0\n",
+        "serve 2:5 after 0 moved 3 1\ngive 2:500 3:0 to 3 course 1 sub 0\n",
+    ),
 );
 
 /// Partition 3 loads these, one of them twice, and gives its own.
