@@ -1,4 +1,4 @@
-# shellcheck shell=bash disable=SC2154,SC2034
+# shellcheck shell=bash disable=SC2154,SC2034,SC2016
 # Audits of what movers, proxies and partitions wrote down. The plain judge has to accept it, whatever was killed amid a move, and to
 # name the line of each fault that is planted.
 
@@ -23,7 +23,8 @@ audit() {
 
 # Whether the logs are accepted, and have at least so many lines.
 is_accepted() {
-  audit && verdict=$(cat "$run/verdict") && [ "${verdict//[!0-9 ]/}" != "" ] && verdict=${verdict#accepted } && [ "${verdict%% *}" -ge "$1" ]
+  local lines _
+  audit && read -r _ lines _ < "$run/verdict" && [ "$lines" -ge "$1" ]
 }
 
 # Whether they are refused, with a line that matches.
@@ -32,7 +33,7 @@ is_refused_at() {
   [ $? -eq 1 ] && is_said "^refused .*/$1" "$run/verdict"
 }
 
-# The checker's load over three moves, each of which is audited beside it.
+# The checker's load over three moves, after which all is audited beside it.
 test_deeds() {
   local mover_words limits all own
   keep_deeds && deploy || return
@@ -141,8 +142,9 @@ test_deeds_as_logs() {
     "take 2 0000000100000009 0000000280000000 2" 'close 2' > "$run/1"
   printf '%s\n' 'part 2' "begin 2 $plans" 'opened 2 0' "pulled 2 0000000200000007 1 loaded" \
     "load 2 $move 0000000100000009 1" "load 2 0000000200000007 0000000200000008 1" 'done 2 0' > "$run/2"
-  printf '%s\n' "1 begin 2 $plans" '3 open 2 0' '4 heard done 2 0 2' '5 op' > "$deeds/leader-b.deeds"
-  printf '%s' "2 begin 2 $plans"$'\n' '7 open 2 0' > "$deeds/leader-a.deeds"
+  printf '%s\n' "1 begin 2 $plans" '3 open 2 0' '4 heard done 2 0 2' > "$deeds/leader-b.deeds"
+  printf '5 op' >> "$deeds/leader-b.deeds"
+  printf '%s\n' "2 begin 2 $plans" '7 open 2 0' > "$deeds/leader-a.deeds"
   "$package/deeds" --out "$run/logs" --deeds "$deeds" --part "1=$run/1" --part "2=$run/2" || return
   local issue='heard issued 2 {"plan":[{"part":1,"from":[0,0],"to":[3,0]},{"part":2,"from":[3,0],"to":"end"}]} {"plan":[{"part":1,"from":[0,0],"to":[1,0]},{"part":2,"from":[1,0],"to":"end"}]}'
   diff "$run/logs/part-1.log" - << E2 || return
