@@ -74,7 +74,7 @@ class Steps:
         world = self.world
         if kind == "open":
             world.open()
-            said(f"opened {world.last} {world.opened - 1}", f"opened {line.number('N')} {line.number('S')}")
+            said(f"opened {world.opened - 1}", f"opened {line.number('S')}")
             return
         new = self.places.owners(line.plan("NEW"))
         if kind == "begin":
@@ -84,7 +84,8 @@ class Steps:
                 world.begin_from(self.places.owners(line.plan("OLD")), new)
             except Refused:
                 raise NotYet("not all keys are where the course begins") from None
-        said(f"begun {world.last}", f"begun {line.number('N')}")
+        parts = sum(it[0] == "p" for it in world.facts)
+        said(f"begun {world.last}, partitions {parts}", f"begun {line.number('N')}, partitions {line.number('C')}")
 
     # ---- partitions
 

@@ -12,7 +12,7 @@ from plain_frames import TOP
 # The forms of lines, by the role of the node. A word in small letters is written as it is. A plan is its JSON text on one line.
 HEARD = ["heard loaded N S P LO HI", "heard done N S P", "heard opened N S", "heard issued N OLD NEW"]
 FORMS = {
-    "leader": ["begin N NEW", "begin-from N OLD NEW", "open N S", *HEARD],
+    "leader": ["begin N C NEW", "begin-from N C OLD NEW", "open S", *HEARD],
     "part": [
         "give LO HI to P course N sub S",
         "load LO HI from P course N sub S HOW",
@@ -29,7 +29,7 @@ FORMS = {
     "router": ["route K P", *HEARD],
 }
 # The least and the greatest value of each number.
-NUMBERS = {"N": (1, 2**32 - 1), "A": (0, 2**32 - 1), "S": (0, 9999), "P": (0, 9999)}
+NUMBERS = {"N": (1, 2**32 - 1), "A": (0, 2**32 - 1), "C": (0, 2**32 - 1), "S": (0, 9999), "P": (0, 9999)}
 
 # A plan is its ranges: the rank at which each ends, and its partition.
 Plan = list[tuple[int, int]]

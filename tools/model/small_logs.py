@@ -43,6 +43,11 @@ def json_of(owners: Owners) -> str:
     return f'{{"plan":[{",".join(ranges)}]}}'
 
 
+def parts_of(world: World) -> int:
+    """How many partitions plans have named."""
+    return sum(name[0] == "p" for name in world.facts)
+
+
 def twin(world: World) -> World:
     """A world like this one."""
     other = copy(world)
@@ -107,12 +112,12 @@ class Small:
     def leading(self):  # type: ignore[no-untyped-def]
         """What the leader may do."""
         is_within = lambda it: it.last <= self.size.courses
-        yield lambda it, _: f"open {it.last} {it.opened - 1}", [lambda it: it.open()]
+        yield lambda it, _: f"open {it.opened - 1}", [lambda it: it.open()]
         for new in self.size.plans:
-            begin = lambda it, _, new=new: f"begin {it.last} {json_of(new)}" if is_within(it) else None
+            begin = lambda it, _, new=new: f"begin {it.last} {parts_of(it)} {json_of(new)}" if is_within(it) else None
             yield begin, [lambda it, new=new: it.begin(new)]
         for old, new in product(self.size.plans, repeat=2):
-            line = lambda it, _, old=old, new=new: f"begin-from {it.last} {json_of(old)} {json_of(new)}" if is_within(it) else None
+            line = lambda it, _, old=old, new=new: f"begin-from {it.last} {parts_of(it)} {json_of(old)} {json_of(new)}" if is_within(it) else None
             yield line, [lambda it, old=old, new=new: it.begin_from(old, new)]
 
     def giving(self, world: World, part: int):  # type: ignore[no-untyped-def]

@@ -168,8 +168,8 @@ E2
   # Each line of the leader is there once, by its time, and one that was cut off is not.
   diff "$run/logs/leader.log" - << E2
 node leader
-begin-from ${issue#heard issued }
-open 2 0
+begin-from 2 2 ${issue#heard issued 2 }
+open 0
 heard done 2 0 2
 E2
 }
