@@ -23,6 +23,8 @@ const BATCH: usize = 256;
 const EXPIRES: Duration = Duration::from_secs(2);
 /// A consumer that nobody has asked for so long is removed by the server.
 const FORGOTTEN: Duration = Duration::from_secs(60);
+/// How long JetStream may take to answer a question. Writers wait longer for a connection, so that this fault comes first.
+const ANSWER: Duration = Duration::from_secs(3);
 /// A consumer that sends nothing for so long, and does not end a request, is gone.
 const GONE: Duration = Duration::from_secs(10);
 /// How many frames are sent before the stream says that it has them.
@@ -121,7 +123,7 @@ impl JetStream {
         message(&mut bytes, &format!("$JS.API.{name}"), Some(&inbox), words.as_bytes());
         talk.send(&bytes)?;
         let began = Instant::now();
-        while began.elapsed() < PATIENCE {
+        while began.elapsed() < ANSWER {
             if let Some(answer) = talk.read()?.into_iter().find(|it| it.subject == inbox) {
                 return Ok(read(&answer.payload));
             }
