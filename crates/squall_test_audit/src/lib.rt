@@ -7,4 +7,6 @@ pub mod client;
 #[cfg(test)]
 mod entries;
 #[cfg(test)]
+mod example;
+#[cfg(test)]
 mod judging;
