@@ -39,7 +39,8 @@
 //! - The lines of a lost tail. If a log was cut off, then lines of other logs that rest on its lost
 //!   lines are named as well.
 //!
-//! The laws are about lines as values. No command reads log files yet.
+//! The laws are about lines as values. `squall_judge` merges such logs, and `squall audit` reads their
+//! texts.
 #![tactic(auto)]
 
 pub mod laws;
