@@ -1,4 +1,5 @@
-//! Tests of judges of logs, over public names alone. There is nothing here to call.
+//! Tests of judges of logs, over public names alone. There is nothing here to call. What judges say of
+//! logs of a whole move is in `cases/audit`, over the built program.
 #![tactic(auto)]
 
 #[cfg(test)]
@@ -8,5 +9,3 @@ pub mod client;
 mod entries;
 #[cfg(test)]
 mod example;
-#[cfg(test)]
-mod judging;
