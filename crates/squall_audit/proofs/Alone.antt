@@ -11,7 +11,7 @@ use Rattle.squall_protocol.specs.declared.event.Node.TheVariants.{Leader}
 use Rattle.squall_protocol.specs.Worlds.{WorldValue, same_node, is_node}
 use Rattle.squall_protocol.specs.WorldLaws.{same_as_itself}
 use Rattle.squall_protocol.specs.Promises.{IsReached}
-use Rattle.squall_protocol.proofs.Start.{kept_always}
+use Rattle.squall_protocol.proofs.ProtocolLaws.{true_reports}
 use Rattle.squall_audit.specs.Lines.{Line, Hearing}
 use Rattle.squall_audit.specs.Logs.{Rooted, log_at, after_heard, IsWritten, ReportsComeAlone}
 use Rattle.squall_audit.proofs.Walk.{Few, trace_both, reached_by}
@@ -50,7 +50,7 @@ alone w m (r ∷ rs) reached is rooted =
     (rest.0, adds_both w v rest.0 m (Hearing (queries_by_report r) ∷ []) (map (λ x. Hearing (queries_by_report x)) rs) first.1 rest.1)
   where
     both : Rooted w (queries_by_report r) × Rooted w (queries_by rs)
-    both = first_rooted w (queries_by_report r) (queries_by rs) ((kept_always w reached).facts Leader) (subst (Rooted w) (by_first r rs) rooted)
+    both = first_rooted w (queries_by_report r) (queries_by rs) (true_reports w reached Leader) (subst (Rooted w) (by_first r rs) rooted)
 
     first : (v : WorldValue) × Adds w v m (Hearing (queries_by_report r) ∷ [])
     first =

@@ -31,8 +31,8 @@ use Rattle.squall_protocol.specs.Worlds.{WorldValue, first_course, last_course, 
 use Rattle.squall_protocol.specs.Knowledge.{PartQueries, part_in, Knows, IsCurrent, NoneOpen, IsClosed, goes_out, is_left, comes_in, is_missing, Serves}
 use Rattle.squall_protocol.specs.Steps.{after_open, after_begin, after_close, after_give, after_load, after_told, IsWanting, IsOver, IsPartOf, LeavesAt, IsWhereLeft, last_count, IsGift, IsArriving, MayLoad, OpenStep, BeginStep, BeginFromStep, CloseStep, GiveStep, GiveAtStep, LoadStep, FinishStep, SendStep, SendPartStep, DeliverStep, RouteStep, ServeStep, Step}
 use Rattle.squall_protocol.specs.WorldLaws.{same_as_itself}
-use Rattle.squall_protocol.proofs.Start.{kept_always}
-use Rattle.squall_protocol.proofs.Lists.{at_front, at_one}
+use Rattle.squall_protocol.proofs.ProtocolLaws.{course_begun}
+use Rattle.squall_protocol.specs.ListLaws.{at_front, at_one}
 use Rattle.squall_audit.specs.Apart.{IsAt, Grows, SamePart, SameLead, Undisturbed}
 use Rattle.squall_audit.specs.Lines.{Line, Own, Gift, Arrival, Saying, Hearing, IsLine, IsNotYet, Happens}
 use Rattle.squall_audit.specs.Merging.{Can, EventsEnable}
@@ -464,7 +464,7 @@ pub events_enable : EventsEnable
 events_enable w v u m n l k reached mine other apart = can_happen w u v m l sees (λ i q at line. (i, there_still w.messages u.messages i q d.messages at)) mine
   where
     first : 1 ≤ w.last
-    first = (kept_always w reached).first
+    first = course_begun w reached
 
     d : Undisturbed w u m
     d = nodes_are_apart w u other.event other.answer m first other.step (λ at. apart (one_place w other.event m n at other.here))

@@ -17,7 +17,7 @@ use Rattle.squall_protocol.specs.declared.answer.Answer.TheVariants.{Opened, Beg
 use Rattle.squall_protocol.specs.declared.answer.Refusal.TheVariants.{NoSuch, NotDone, NoMore, Running, NoNumber, NotOpen, Ended, NothingLeft, ZeroMax, NotOutgoing, Given, NotHeld, Stranger, NotAll, NothingDue, NotKnown}
 use Rattle.squall_protocol.specs.Worlds.{WorldValue, same_node}
 use Rattle.squall_protocol.specs.Steps.{OpenStep, BeginStep, BeginFromStep, CloseStep, GiveStep, GiveAtStep, LoadStep, FinishStep, SendStep, SendPartStep, DeliverStep, RouteStep, ServeStep, Step}
-use Rattle.squall_protocol.proofs.Lists.{at_front, at_end, at_either}
+use Rattle.squall_protocol.specs.ListLaws.{at_front, at_end, at_either}
 use Rattle.squall_audit.specs.Apart.{IsAt}
 use Rattle.squall_audit.specs.Lines.{Line, Own, Gift, Saying, IsLine, IsNotYet, Happens, Trace, lines_at}
 use Rattle.squall_audit.proofs.Views.{same_self}

@@ -6,7 +6,7 @@ use Rattle.squall_protocol.specs.declared.event.Node.{Node}
 use Rattle.squall_protocol.specs.declared.event.Node.TheVariants.{Part}
 use Rattle.squall_protocol.specs.Worlds.{WorldValue, same_node}
 use Rattle.squall_protocol.specs.Promises.{IsReached}
-use Rattle.squall_protocol.proofs.Start.{kept_always}
+use Rattle.squall_protocol.proofs.ProtocolLaws.{course_begun}
 use Rattle.squall_audit.specs.Lines.{Line, Gift, Trace, lines_at, View, view, after_line, after_lines}
 use Rattle.squall_audit.proofs.Views.{logs_tell, same_self}
 use Rattle.squall_audit.proofs.Left.{IsShut, shut_step, view_step}
@@ -17,7 +17,7 @@ use Rattle.squall_audit.proofs.Walk.{Taken, next, line_elsewhere}
 shut_trace : (s u : WorldValue) (t : List (Node × Line)) (p c k : ℕ) → IsReached s → Trace s t u → IsShut (view (Part p) s) c k → IsShut (view (Part p) u) c k
 shut_trace s u [] p c k reached trace h = subst (λ w. IsShut (view (Part p) w) c k) (sym trace) h
 shut_trace s u ((n, l) ∷ ts) p c k reached trace h =
-    shut_trace trace.0 u ts p c k (next s trace.0 n l reached trace.1) trace.2 (shut_step s trace.0 n l p c k (kept_always s reached).first trace.1 h)
+    shut_trace trace.0 u ts p c k (next s trace.0 n l reached trace.1) trace.2 (shut_step s trace.0 n l p c k (course_begun s reached) trace.1 h)
 
 module _ (keep : Line → Bool) (passed : (l : Line) (V : View) → keep l ≡ false → after_line l V ≡ V) where
   kept_lines : (ls : List Line) (V : View) → after_lines (filter keep ls) V ≡ after_lines ls V
@@ -63,7 +63,7 @@ module _ (keep : Line → Bool) (passed : (l : Line) (V : View) → keep l ≡ f
       (cases_Bool (keep l)))
       (λ (other : (same_node (Part p) n ≡ false) × (view (Part p) v ≡ view (Part p) s)).
       shut_later v u ts p (x ∷ ks) more c k reached_then trace.2 (sym (ap (filter keep) (line_elsewhere (Part p) n l ts other.0)) ∙ has) (subst (λ V. IsShut (after_lines (x ∷ ks) V) c k) (sym other.1) h))
-      (view_step s v (Part p) n l (kept_always s reached).first trace.1)
+      (view_step s v (Part p) n l (course_begun s reached) trace.1)
     where
       v : WorldValue
       v = trace.0

@@ -24,7 +24,7 @@ use Rattle.squall_protocol.specs.Worlds.{WorldValue, same_node, is_part, is_node
 use Rattle.squall_protocol.specs.Steps.{IsPartOf}
 use Rattle.squall_protocol.specs.WorldLaws.{same_world, same_as_itself}
 use Rattle.squall_protocol.specs.Promises.{IsReached}
-use Rattle.squall_protocol.proofs.Lists.{at_end}
+use Rattle.squall_protocol.specs.ListLaws.{at_end}
 use Rattle.squall_audit.specs.Lines.{Line, Own, Gift, Arrival, Saying, Hearing, Trace, lines_at, Happens}
 use Rattle.squall_audit.specs.Logs.{SomeNode, CanBeHeard, Rooted, is_sent, log_at, after_heard, Comes, IsOfOneReport, with_lines, HasLogs, OneNodeKnows, OriginsKnow, WhatComesHappens}
 use Rattle.squall_audit.proofs.Walk.{lines_both, trace_both, trace_one, reached_by}

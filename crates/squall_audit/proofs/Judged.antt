@@ -21,9 +21,8 @@ use Rattle.squall_protocol.specs.declared.answer.Refusal.TheVariants.{NoSuch}
 use Rattle.squall_protocol.specs.Worlds.{WorldValue, is_node}
 use Rattle.squall_protocol.specs.Steps.{IsPartOf, Step}
 use Rattle.squall_protocol.specs.WorldLaws.{same_as_itself}
-use Rattle.squall_protocol.specs.Promises.{IsReached}
-use Rattle.squall_protocol.proofs.Kept.{TrueFacts}
-use Rattle.squall_protocol.proofs.Start.{kept_always}
+use Rattle.squall_protocol.specs.Promises.{IsReached, Happened}
+use Rattle.squall_protocol.proofs.ProtocolLaws.{true_reports}
 use Rattle.squall_audit.specs.Apart.{IsAt}
 use Rattle.squall_audit.specs.Lines.{Line, Own, Gift, Arrival, Saying, Hearing, IsLine, IsNotYet, Happens, Trace, lines_at, View, view, tell, after_line, after_lines}
 use Rattle.squall_audit.specs.Merging.{Can}
@@ -144,7 +143,7 @@ told_by w v m q (Route r k) a h such at line = absurd (no_own (Route r k) a q li
 told_by w v m q (Serve p k after) a h such at line = absurd (no_own (Serve p k after) a q line)
 
 -- each part of what is known is known
-pub first_rooted : (w : WorldValue) (a b : Queries) → TrueFacts w (w.facts Leader) → Rooted w (joined_queries a b) → Rooted w a × Rooted w b
+pub first_rooted : (w : WorldValue) (a b : Queries) → Happened w (w.facts Leader) → Rooted w (joined_queries a b) → Rooted w a × Rooted w b
 first_rooted w a b t r = (
   record {
     loaded = λ c k h. r.loaded c k (or_left (a.loaded c k) (b.loaded c k) h);
@@ -167,7 +166,7 @@ first_rooted w a b t r = (
     is n = ⊎_elim (λ (none : (joined_queries a b).issued n ≡ Unknown). inl none) (λ (lead : (joined_queries a b).issued n ≡ (w.facts Leader).issued n). subst IsSettled (sym lead) (settled w (w.facts Leader) n t)) (r.issued n)
 
 -- so each line of a message that is written in parts can come
-part_heard : (w : WorldValue) (parts : List Queries) (m : Node) (r : List Line) (k : Line) (more : List Line) → TrueFacts w (w.facts Leader) → is_node w m ≡ true → Rooted w (all_of parts) → map Hearing parts ≡ r ++ k ∷ more → CanCome w m k
+part_heard : (w : WorldValue) (parts : List Queries) (m : Node) (r : List Line) (k : Line) (more : List Line) → Happened w (w.facts Leader) → is_node w m ≡ true → Rooted w (all_of parts) → map Hearing parts ≡ r ++ k ∷ more → CanCome w m k
 part_heard w [] m [] k more t there rooted e = absurd (cc)
 part_heard w [] m (x ∷ r) k more t there rooted e = absurd (cc)
 part_heard w (q ∷ qs) m [] k more t there rooted e = subst (CanCome w m) (head (map Hearing qs) e) (after_heard w m q, (there, heard_rooted w q (first_rooted w q (all_of qs) t rooted).0, same_as_itself (after_heard w m q)))
@@ -201,7 +200,7 @@ module _ (s u : WorldValue) (t : List (Node × Line)) (reached : IsReached s) (t
         let more = told_lines (few.begins m).0 (view m v) in
         let all : u.facts m ≡ joined_queries (v.facts m) more.0 =
         sym (told_of m u) ∙ ap (λ (V : View). V.told) (view_more IsWritten written s u t T reached taken p K v few m) ∙ more.1 ∙ ap (λ f. joined_queries f more.0) (told_of m v) in
-        subst (IsPartOf (v.facts m)) (sym all) (joined_first (v.facts m) more.0 (λ i. subst (λ (f : Queries). IsSettled (f.issued i)) all (settled u (u.facts m) i ((kept_always u end).facts m))))
+        subst (IsPartOf (v.facts m)) (sym all) (joined_first (v.facts m) more.0 (λ i. subst (λ (f : Queries). IsSettled (f.issued i)) all (settled u (u.facts m) i (true_reports u end m))))
 
     pub known : (q : Queries) → Rooted v q → Rooted u q
     known q r = rooted_later v u q (parts_there IsWritten written s u t T reached taken p K v few) grows r
@@ -229,7 +228,7 @@ module _ (s u : WorldValue) (t : List (Node × Line)) (reached : IsReached s) (t
   goes p K v z n (Hearing q) xs r k more few h is has on =
       let came : Told v n q = told_by v z n q h.event h.answer h.step h.there h.here h.line in
       let known_then : Rooted v q = (origins_always v (reached_by s v p reached few.trace)).messages came.0 q came.1 in
-      part_heard u is.0 n r k more ((kept_always u end).facts Leader) (there p K v z n few n came.2) (subst (Rooted u) (sym is.2) (known p K v z n few q known_then)) (sym is.1 ∙ on)
+      part_heard u is.0 n r k more (true_reports u end Leader) (there p K v z n few n came.2) (subst (Rooted u) (sym is.2) (known p K v z n few q known_then)) (sym is.1 ∙ on)
   goes p K v z n (Own e a) xs r k more few h is has on = let x = as_it_is p K v z n few (Own e a) xs r k more (λ i q at g. absurd (cc)) h has on is in subst (CanCome u n) (sym x.2) (x.1.0, (x.0, x.1.1))
   goes p K v z n (Gift e x) xs r k more few h is has on = let y = as_it_is p K v z n few (Gift e x) xs r k more (λ i q at g. absurd (cc)) h has on is in subst (CanCome u n) (sym y.2) (y.1.0, (y.0, y.1.1))
   goes p K v z n (Arrival x a) xs r k more few h is has on = let y = as_it_is p K v z n few (Arrival x a) xs r k more (λ i q at g. absurd (cc)) h has on is in subst (CanCome u n) (sym y.2) (y.1.0, (y.0, y.1.1))

@@ -18,8 +18,8 @@ use Rattle.squall_protocol.specs.declared.answer.Refusal.TheVariants.{NoSuch, No
 use Rattle.squall_protocol.specs.Worlds.{WorldValue, first_course, is_part}
 use Rattle.squall_protocol.specs.Steps.{LeavesAt, IsArriving, LoadStep, Step}
 use Rattle.squall_protocol.specs.Promises.{IsReached}
-use Rattle.squall_protocol.proofs.Lists.{at_front, at_one}
-use Rattle.squall_protocol.proofs.OneStep.{one_step}
+use Rattle.squall_protocol.specs.ListLaws.{at_front, at_one}
+use Rattle.squall_protocol.proofs.ProtocolLaws.{one_step}
 use Rattle.squall_audit.specs.Apart.{SamePart, SameLead}
 use Rattle.squall_audit.specs.Lines.{Line, Own, Gift, Arrival, Saying, Hearing, IsLine, IsNotYet, Happens, View, view, after_line, after_lines}
 use Rattle.squall_audit.specs.Merging.{Can}

@@ -25,13 +25,10 @@ use Rattle.squall_protocol.specs.declared.answer.Answer.TheVariants.{Opened, Beg
 use Rattle.squall_protocol.specs.declared.answer.Refusal.TheVariants.{NoSuch, NotDone, NoMore, Running, NoNumber, NotOpen, Ended, NothingLeft, ZeroMax, NotOutgoing, Given, NotHeld, Stranger, NotAll, NothingDue, NotKnown}
 use Rattle.squall_protocol.specs.Worlds.{WorldValue, SameWorld, same_node, is_part, WasBegun, pair_at, start}
 use Rattle.squall_protocol.specs.Steps.{told_to, after_open, after_begin, after_close, after_give, after_load, after_told, IsPartOf, OpenStep, BeginStep, BeginFromStep, CloseStep, GiveStep, GiveAtStep, LoadStep, FinishStep, SendStep, SendPartStep, DeliverStep, RouteStep, ServeStep, Step, Run}
-use Rattle.squall_protocol.specs.WorldLaws.{same_world}
-use Rattle.squall_protocol.specs.Promises.{IsReached}
-use Rattle.squall_protocol.proofs.Kept.{TrueFacts, Kept}
-use Rattle.squall_protocol.proofs.Start.{kept_start}
-use Rattle.squall_protocol.proofs.Runs.{keeps_step}
-use Rattle.squall_protocol.proofs.Lists.{at_either}
-use Rattle.squall_protocol.proofs.Parts.{part_stays}
+use Rattle.squall_protocol.specs.WorldLaws.{same_world, same_as_itself, reached_start, reached_step}
+use Rattle.squall_protocol.specs.Promises.{IsReached, Happened}
+use Rattle.squall_protocol.specs.ListLaws.{at_either}
+use Rattle.squall_protocol.proofs.ProtocolLaws.{true_reports, part_stays}
 use Rattle.squall_audit.specs.Logs.{Rooted}
 use Rattle.squall_audit.proofs.Views.{same_self}
 
@@ -41,7 +38,7 @@ use Rattle.squall_audit.proofs.Views.{same_self}
 abbrev pub IsSettled : Flat PlanPair → Type 0
 IsSettled x = (x ≡ Unknown) ⊎ ((pair : PlanPair) × (x ≡ One pair))
 
-pub settled : (w : WorldValue) (f : Queries) (n : ℕ) → TrueFacts w f → IsSettled (f.issued n)
+pub settled : (w : WorldValue) (f : Queries) (n : ℕ) → Happened w f → IsSettled (f.issued n)
 settled w f n t = ⊎_elim (λ (none : f.issued n ≡ Unknown). inl none) (λ (one : WasBegun w n × (f.issued n ≡ One (pair_at w n))). inr (pair_at w n, one.1)) (t.issued n)
 
 no_clash : IsSettled Clash → ⊥
@@ -149,7 +146,7 @@ pub record Heard (w v : WorldValue) : Type 0 where
   parts : (p : ℕ) → is_part w p ≡ true → is_part v p ≡ true
   rooted : ((m : Node) → IsPartOf (w.facts m) (v.facts m)) → IsPartOf more (v.facts node) → Rooted v more
 
-module _ (w v : WorldValue) (kept : Kept v) (origins : Origins w) where
+module _ (w v : WorldValue) (reached : IsReached v) (origins : Origins w) where
   still : ((m : Node) → v.facts m ≡ w.facts m) → ((i : ℕ) (q : Queries) → slice_get v.messages i ≡ Some q → (slice_get w.messages i ≡ Some q) ⊎ Rooted w q) → ((p : ℕ) → is_part w p ≡ true → is_part v p ≡ true) → Origins v
   still facts messages parts =
       record {
@@ -167,7 +164,7 @@ module _ (w v : WorldValue) (kept : Kept v) (origins : Origins w) where
   heard h = record { facts = facts; messages = λ i q at. later q (origins.messages i q (subst (λ xs. slice_get xs i ≡ Some q) h.messages at)) }
     where
       is_settled : (m : Node) (n : ℕ) → IsSettled ((v.facts m).issued n)
-      is_settled m n = settled v (v.facts m) n (kept.facts m)
+      is_settled m n = settled v (v.facts m) n (true_reports v reached m)
 
       at_node : (m : Node) → same_node m h.node ≡ true → v.facts m ≡ joined_queries (w.facts m) h.more
       at_node m e = h.told m ∙ cond-true (same_node m h.node) (joined_queries (w.facts m) h.more) (w.facts m) e
@@ -399,15 +396,19 @@ origins_start old new routers = record { facts = facts; messages = λ i q at. ab
     facts (Part p) = record { loaded = λ c k h. absurd (true≢false (sym h)); done = λ c h. absurd (true≢false (sym h)); opened = λ n. omega arith; issued = λ n. inl refl }
     facts (Router r) = record { loaded = λ c k h. absurd (true≢false (sym h)); done = λ c h. absurd (true≢false (sym h)); opened = λ n. omega arith; issued = λ n. inl refl }
 
-origins_run : (w : WorldValue) (es : List Event) (rs : List Answer) (v : WorldValue) → Kept w → Origins w → Run w es rs v → Origins v
-origins_run w [] [] v kept origins run = subst Origins (sym (same_world v w run)) origins
-origins_run w (e ∷ es) (r ∷ rs) v kept origins run =
-    let then : Kept run.0 = keeps_step w run.0 e r kept run.1 in
+origins_run : (w : WorldValue) (es : List Event) (rs : List Answer) (v : WorldValue) → IsReached w → Origins w → Run w es rs v → Origins v
+origins_run w [] [] v reached origins run = subst Origins (sym (same_world v w run)) origins
+origins_run w (e ∷ es) (r ∷ rs) v reached origins run =
+    let then : IsReached run.0 = reached_step w run.0 e r reached run.1 in
     origins_run run.0 es rs v then (origins_step w run.0 then origins e r run.1) run.2
-origins_run w [] (r ∷ rs) v kept origins run = absurd run
-origins_run w (e ∷ es) [] v kept origins run = absurd run
+origins_run w [] (r ∷ rs) v reached origins run = absurd run
+origins_run w (e ∷ es) [] v reached origins run = absurd run
 
 pub origins_always : (w : WorldValue) → IsReached w → Origins w
-origins_always w reached =
-    origins_run (start reached.old reached.new reached.routers) reached.events reached.answers w (kept_start reached.old reached.new reached.routers reached.old_plan reached.new_plan)
-    (origins_start reached.old reached.new reached.routers) reached.run
+origins_always w reached = origins_run first reached.events reached.answers w at_first (origins_start reached.old reached.new reached.routers) reached.run
+  where
+    first : WorldValue
+    first = start reached.old reached.new reached.routers
+
+    at_first : IsReached first
+    at_first = reached_start reached.old reached.new reached.routers first reached.old_plan reached.new_plan (same_as_itself first)

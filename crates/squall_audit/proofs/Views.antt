@@ -21,8 +21,8 @@ use Rattle.squall_protocol.specs.declared.answer.Refusal.TheVariants.{NoSuch, No
 use Rattle.squall_protocol.specs.Worlds.{WorldValue, SameWorld, same_node}
 use Rattle.squall_protocol.specs.Steps.{told_to, after_open, after_begin, after_close, after_give, after_load, after_told, OpenStep, BeginStep, BeginFromStep, CloseStep, GiveStep, GiveAtStep, LoadStep, FinishStep, SendStep, SendPartStep, DeliverStep, RouteStep, ServeStep, Step}
 use Rattle.squall_protocol.specs.WorldLaws.{same_world, reached_step}
-use Rattle.squall_protocol.proofs.Lists.{at_one}
-use Rattle.squall_protocol.proofs.Start.{kept_always}
+use Rattle.squall_protocol.specs.ListLaws.{at_one}
+use Rattle.squall_protocol.proofs.ProtocolLaws.{course_begun}
 use Rattle.squall_audit.specs.Apart.{IsAt, Undisturbed}
 use Rattle.squall_audit.specs.Lines.{Line, Own, Gift, Arrival, Saying, Hearing, IsLine, IsNotYet, Happens, View, view, tell, begun, after_line, after_lines, lines_at, LogsTell}
 use Rattle.squall_audit.proofs.Apart.{nodes_are_apart}
@@ -280,5 +280,5 @@ more_told s v u n l ls m first h rest = ⊎_elim
 pub logs_tell : LogsTell
 logs_tell s u [] m reached trace = ap (λ x. view m x) trace
 logs_tell s u ((n, l) ∷ ls) m reached trace =
-    more_told s trace.0 u n l ls m (kept_always s reached).first trace.1
+    more_told s trace.0 u n l ls m (course_begun s reached) trace.1
     (logs_tell trace.0 u ls m (reached_step s trace.0 trace.1.event trace.1.answer reached trace.1.step) trace.2)

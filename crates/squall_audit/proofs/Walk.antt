@@ -16,7 +16,7 @@ use Rattle.squall_protocol.specs.declared.answer.Answer.TheVariants.{Opened, Beg
 use Rattle.squall_protocol.specs.Worlds.{WorldValue, first_course, is_part, same_node}
 use Rattle.squall_protocol.specs.Promises.{IsReached}
 use Rattle.squall_protocol.specs.WorldLaws.{reached_step}
-use Rattle.squall_protocol.proofs.Start.{kept_always}
+use Rattle.squall_protocol.proofs.ProtocolLaws.{course_begun}
 use Rattle.squall_audit.specs.Apart.{IsAt, Grows, SamePart, SameLead, Undisturbed}
 use Rattle.squall_audit.specs.Lines.{Line, Own, Gift, Arrival, Hearing, Happens, Trace, lines_at, View, view, after_line, after_lines}
 use Rattle.squall_audit.specs.Logs.{AreWritten}
@@ -59,7 +59,7 @@ pub record Fixed (w u : WorldValue) : Type 0 where
 fixed_step : (w v : WorldValue) (m : Node) (l : Line) → IsReached w → Happens w m l v → Fixed w v
 fixed_step w v m l reached h =
     let a = away w h.event in
-    let d : Undisturbed w v a.0 = nodes_are_apart w v h.event h.answer a.0 (kept_always w reached).first h.step a.1 in
+    let d : Undisturbed w v a.0 = nodes_are_apart w v h.event h.answer a.0 (course_begun w reached) h.step a.1 in
     record { first = d.first; routers = d.routers }
 
 pub next : (w v : WorldValue) (m : Node) (l : Line) → IsReached w → Happens w m l v → IsReached v

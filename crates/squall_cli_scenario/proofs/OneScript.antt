@@ -6,7 +6,7 @@ use Rattle.squall_protocol.specs.declared.event.Event.TheVariants.{Serve}
 use Rattle.squall_protocol.specs.declared.answer.Answer.TheVariants.{Served}
 use Rattle.squall_protocol.specs.Worlds.{SameWorld}
 use Rattle.squall_protocol.specs.WorldLaws.{same_world}
-use Rattle.squall_protocol.proofs.OneStep.{one_step}
+use Rattle.squall_protocol.proofs.ProtocolLaws.{one_step}
 use Rattle.squall_errand.specs.declared.errand.Reply.TheVariants.{Held}
 use Rattle.squall_rows.specs.RowSteps.{Act, Plain, Ask, Restart, Outcome, Answered, Ran, Back}
 use Rattle.squall_store.specs.declared.command.Command.{Command}

@@ -13,7 +13,7 @@ use Rattle.squall_protocol.specs.declared.answer.Refusal.TheVariants.{NoSuch, No
 use Rattle.squall_protocol.specs.Worlds.{WorldValue}
 use Rattle.squall_protocol.specs.Steps.{Step}
 use Rattle.squall_protocol.specs.WorldLaws.{same_world}
-use Rattle.squall_protocol.proofs.OneStep.{one_step}
+use Rattle.squall_protocol.proofs.ProtocolLaws.{one_step}
 use Rattle.squall_audit.specs.Apart.{IsAt}
 use Rattle.squall_audit.specs.Lines.{Line, Own, Gift, Arrival, Hearing, IsLine, IsNotYet}
 use Rattle.squall_audit.specs.Logs.{is_sent, Comes}

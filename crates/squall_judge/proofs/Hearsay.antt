@@ -24,7 +24,7 @@ use Rattle.squall_protocol.specs.Worlds.{WorldValue, SameWorld, is_node}
 use Rattle.squall_protocol.specs.Steps.{IsPartOf, after_told, SendPartStep, DeliverStep}
 use Rattle.squall_protocol.specs.WorldLaws.{same_world}
 use Rattle.squall_protocol.specs.Promises.{IsReached}
-use Rattle.squall_protocol.proofs.Lists.{at_end, at_one}
+use Rattle.squall_protocol.specs.ListLaws.{at_end, at_one}
 use Rattle.squall_audit.specs.Lines.{Hearing}
 use Rattle.squall_audit.specs.Logs.{CanBeHeard, Rooted, OriginsKnow, after_heard}
 use Rattle.squall_audit.proofs.Heard.{told_alone, same_cell_part}

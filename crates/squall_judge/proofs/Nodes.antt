@@ -6,7 +6,7 @@ use Rattle.std.proofs.lemmas.List.{get_or_read}
 use Rattle.squall_protocol.specs.declared.event.Node.{Node}
 use Rattle.squall_protocol.specs.declared.event.Node.TheVariants.{Router}
 use Rattle.squall_protocol.specs.Worlds.{most_routers}
-use Rattle.squall_protocol.proofs.Lists.{at_one}
+use Rattle.squall_protocol.specs.ListLaws.{at_one}
 use Rattle.squall_judge.specs.declared.log.Log.{Log}
 use Rattle.squall_judge.specs.Entries.{IsLogAt, AreApart, HasTwoLogs, AreRouters, IsCount}
 

@@ -13,8 +13,8 @@ use Rattle.squall_protocol.specs.declared.answer.Refusal.TheVariants.{NoSuch}
 use Rattle.squall_protocol.specs.Worlds.{WorldValue}
 use Rattle.squall_protocol.specs.Steps.{LoadStep, Step}
 use Rattle.squall_protocol.specs.WorldLaws.{same_world}
-use Rattle.squall_protocol.proofs.Lists.{at_one}
-use Rattle.squall_protocol.proofs.OneStep.{one_step}
+use Rattle.squall_protocol.specs.ListLaws.{at_one}
+use Rattle.squall_protocol.proofs.ProtocolLaws.{one_step}
 use Rattle.squall_audit.specs.Apart.{IsAt}
 use Rattle.squall_audit.specs.Lines.{Own, Gift, Arrival, IsNotYet}
 use Rattle.squall_audit.specs.Logs.{Comes}

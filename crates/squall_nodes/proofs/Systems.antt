@@ -28,10 +28,7 @@ use Rattle.squall_protocol.specs.Worlds.{WorldValue, first_course, last_course, 
 use Rattle.squall_protocol.specs.Steps.{IsPlan, IsPartOf, IsWhereLeft, Step, Run}
 use Rattle.squall_protocol.specs.Promises.{IsReached}
 use Rattle.squall_protocol.specs.WorldLaws.{same_as_itself, reached_start, reached_step, run_more}
-use Rattle.squall_protocol.proofs.Courses.{named_owner}
-use Rattle.squall_protocol.proofs.Parts.{part_first}
-use Rattle.squall_protocol.proofs.Left.{each_holds}
-use Rattle.squall_protocol.proofs.Start.{kept_always}
+use Rattle.squall_protocol.proofs.ProtocolLaws.{own_left, part_first, names_owner}
 use Rattle.squall_part.specs.Parts.{PartValue, IsPart, course_of_part, new_part}
 use Rattle.squall_part.specs.Giving.{after_close}
 use Rattle.squall_replay.specs.Calls.{IsSamePart}
@@ -275,13 +272,13 @@ begin_moved first w v s plan m (Err f) beside is reached moved = leader_moved fi
 
 -- a plan that has each key where the leader's course leaves it in the system does so in the world
 left_in_world : (first : Change) (w : WorldValue) (s : SystemValue) → Beside first w s → (old : List PlanRange) → IsPlan old → IsLeftBy s old → IsWhereLeft w old
-left_in_world first w s b old old_is left = each_holds w (kept_always w b.reached) old (λ p. record {
+left_in_world first w s b old old_is left = own_left w b.reached old (λ p. record {
   held = λ k key owner. let a = at p k key owner in (b.stands.parts p a.0 a.1).held k ∙ a.2.held k key owner;
   closed = λ k key owner moves source. let a = at p k key owner in (b.stands.parts p a.0 a.1).closed w.last ∙ a.2.closed k key owner moves source;
 })
   where
     at : (p k : ℕ) → k < top → owner_of old k ≡ p → (a : PartValue) × (s.parts p ≡ Some a) × HasOwn (last_course w) a old p
-    at p k key owner = left (last_course w) b.stands.leader.course p (subst (λ q. names old q ≡ true) owner (named_owner old k old_is key))
+    at p k key owner = left (last_course w) b.stands.leader.course p (subst (λ q. names old q ≡ true) owner (names_owner old k old_is key))
 
 -- ---- whatever happens
 

@@ -6,7 +6,7 @@ use Rattle.squall_plan.specs.Ranges.{owner_of}
 use Rattle.squall_course.specs.Change.{Change}
 use Rattle.squall_errand.specs.declared.errand.Reply.{Reply}
 use Rattle.squall_errand.specs.declared.errand.Reply.TheVariants.{Held, Moved, Pending, Behind, Elsewhere}
-use Rattle.squall_protocol.proofs.Greatest.{same_greatest}
+use Rattle.squall_protocol.specs.FirstsLaws.{same_greatest}
 use Rattle.squall_part.specs.Parts.{PartValue, known_to}
 use Rattle.squall_part.specs.Serving.{IsLastGiven, IsLastComing, IsReply}
 

@@ -14,7 +14,7 @@ use Rattle.squall_protocol.proofs.Kept.{Hears, IsNewest, IsGiven, IsLoaded, IsSe
 use Rattle.squall_span.specs.Spans.{Interval}
 use Rattle.squall_protocol.specs.Chunks.{chunk_with}
 use Rattle.squall_protocol.proofs.Later.{Later, true_later}
-use Rattle.squall_protocol.proofs.Lists.{at_front, at_end, at_either}
+use Rattle.squall_protocol.specs.ListLaws.{at_front, at_end, at_either}
 use Rattle.squall_protocol.proofs.Places.{newest_is_last, not_given}
 
 -- what a giver makes sure of, of each key of the chunk

@@ -1,20 +1,18 @@
 -- Where a course leaves a key stays true, and partitions find it out each by itself.
-use Rattle.std.proofs.Common.{◌≡◌, ◌≢◌, ◌⊎◌, ℕ, ◌<◌, ◌≤◌, ◌==◌, ◌&&◌, true, false, List, [], ◌∷◌, refl, sym, ap₂, ◌∙◌, subst, inl, inr, ⊎_elim, le_trans}
+use Rattle.std.proofs.Common.{◌≡◌, ℕ, ◌≤◌, ◌==◌, ◌&&◌, true, false, List, [], ◌∷◌, refl, sym, ap₂, ◌∙◌, subst, inl, inr, ⊎_elim, le_trans}
 use Rattle.std.proofs.lemmas.Bool.{eqb-true, and_parts, or_from, or_left, both_ways, false_from_ne_true}
-use Rattle.squall_key.specs.Keys.{top}
 use Rattle.squall_span.specs.Spans.{span_has}
 use Rattle.squall_plan.specs.declared.range.PlanRange.{PlanRange}
 use Rattle.squall_plan.specs.Ranges.{owner_of}
 use Rattle.squall_protocol.specs.declared.event.Event.{Event}
 use Rattle.squall_protocol.specs.declared.answer.Answer.{Answer}
-use Rattle.squall_protocol.specs.Chunks.{ChunkValue}
 use Rattle.squall_protocol.specs.Worlds.{WorldValue}
 use Rattle.squall_protocol.specs.WorldLaws.{same_world}
-use Rattle.squall_protocol.specs.Steps.{LeavesAt, IsWhereLeft, HoldsOwn, after_give, after_close, Step, Run}
+use Rattle.squall_protocol.specs.Steps.{LeavesAt, IsWhereLeft, HoldsOwn, Step, Run}
 use Rattle.squall_protocol.proofs.Courses.{old_owner, new_owner, Moves}
 use Rattle.squall_protocol.proofs.Kept.{Kept}
 use Rattle.squall_protocol.proofs.Later.{Later, old_same, new_same, moves_before, moves_after}
-use Rattle.squall_protocol.proofs.Changes.{WorldChange, stays, opens, begins, closes, gives, loads, tells, sends, later_change}
+use Rattle.squall_protocol.proofs.Changes.{WorldChange, stays, opens, begins, closes, gives, loads, tells, sends}
 use Rattle.squall_protocol.proofs.Runs.{Became, became, keeps_step, later_step}
 
 -- what a change leaves as it was: who is closed stays so, and gives no more

@@ -1,49 +1,48 @@
-pub mod Greatest
-pub mod Courses
-pub mod Kept
-pub mod Later
-pub mod Told
-pub mod Known
-pub mod Parts
-pub mod Lists
-pub mod Threes
-pub mod Chain
-pub mod Places
-pub mod Says
-pub mod Give
-pub mod Load
-pub mod Tell
-pub mod Open
-pub mod Begin
-pub mod Close
-pub mod Changes
-pub mod Runs
-pub mod Start
-pub mod Carriers
-pub mod Had
-pub mod Routed
-pub mod Served
-pub mod Ends
-pub mod Left
-pub mod Current
-pub mod Firsts
-pub mod Once
-pub mod OneLead
-pub mod OneClose
-pub mod OneGift
-pub mod OneGiftAt
-pub mod OneLoad
-pub mod OneFinish
-pub mod OneReply
-pub mod OneMessage
-pub mod OneStep
-pub mod Search
-pub mod SomeCourse
-pub mod SomeLead
-pub mod SomeGift
-pub mod SomeLoad
-pub mod SomeFinish
-pub mod SomeReply
-pub mod SomePart
-pub mod SomeMessage
-pub mod SomeStep
+pub mod ProtocolLaws
+mod Courses
+mod Kept
+mod Later
+mod Told
+mod Known
+mod Parts
+mod Threes
+mod Chain
+mod Places
+mod Says
+mod Give
+mod Load
+mod Tell
+mod Open
+mod Begin
+mod Close
+mod Changes
+mod Runs
+mod Start
+mod Reached
+mod Carriers
+mod Had
+mod Routed
+mod Served
+mod Ends
+mod Left
+mod Current
+mod Once
+mod OneLead
+mod OneClose
+mod OneGift
+mod OneGiftAt
+mod OneLoad
+mod OneFinish
+mod OneReply
+mod OneMessage
+mod OneStep
+mod Search
+mod SomeCourse
+mod SomeLead
+mod SomeGift
+mod SomeLoad
+mod SomeFinish
+mod SomeReply
+mod SomePart
+mod SomeMessage
+mod SomeStep

@@ -13,7 +13,7 @@ use Rattle.squall_protocol.specs.declared.event.Event.TheVariants.{OpenNext, Beg
 use Rattle.squall_protocol.specs.declared.answer.Answer.TheVariants.{Opened, Begun, Refused}
 use Rattle.squall_protocol.specs.declared.answer.Refusal.TheVariants.{NotDone, NoMore, Running, NoNumber}
 use Rattle.squall_protocol.specs.Worlds.{WorldValue, last_course}
-use Rattle.squall_protocol.specs.Steps.{IsWanting, NoneWanting, IsOver, IsPlan, LeavesAt, IsWhereLeft, last_count, after_open, after_begin}
+use Rattle.squall_protocol.specs.Steps.{IsWanting, NoneWanting, IsOver, IsPlan, LeavesAt, last_count, after_open, after_begin}
 use Rattle.squall_protocol.specs.Acts.{HasAnswer}
 use Rattle.squall_protocol.proofs.Courses.{is_incoming_so, moving_key, named_owner}
 use Rattle.squall_protocol.proofs.Kept.{Kept}

@@ -10,7 +10,7 @@ use Rattle.squall_protocol.specs.Steps.{told_to, after_told}
 use Rattle.squall_protocol.proofs.Kept.{Hears, TrueFacts, IsGiven, IsLoaded, IsSent, HasChunk, Kept}
 use Rattle.squall_protocol.proofs.Later.{true_later}
 use Rattle.squall_protocol.proofs.Told.{true_told, hears_told}
-use Rattle.squall_protocol.proofs.Lists.{at_either}
+use Rattle.squall_protocol.specs.ListLaws.{at_either}
 
 pub keeps_told : (w : WorldValue) (node : Node) (more : Queries) → Kept w → TrueFacts w more → Kept (after_told w node more)
 keeps_told w node more kept true_more =

@@ -11,7 +11,7 @@ use Rattle.squall_board.specs.Boards.{BoardValue, board_join, report_board, open
 use Rattle.squall_board.specs.CourseRoute.{course_of_board}
 use Rattle.squall_protocol.specs.Chunks.{ChunkValue, load_report}
 use Rattle.squall_protocol.specs.Firsts.{AreFirst}
-use Rattle.squall_protocol.proofs.Firsts.{one_first}
+use Rattle.squall_protocol.specs.FirstsLaws.{one_first}
 use Rattle.squall_part.specs.Parts.{PartValue, IsPart, course_of_part, known_to, opened_at, given_by, loaded_by, closed_by}
 use Rattle.squall_part.specs.Giving.{IsCurrent, IsChunkOf, is_left, after_giving, after_close}
 use Rattle.squall_part.specs.Loading.{SomeMissing, AllLoaded, after_load, after_finish, done_report}

@@ -13,7 +13,7 @@ use Rattle.squall_protocol.specs.declared.answer.Answer.TheVariants.{Gave, Loade
 use Rattle.squall_protocol.specs.Worlds.{WorldValue}
 use Rattle.squall_protocol.specs.Steps.{Step, GiveStep, GiveAtStep, LoadStep}
 use Rattle.squall_protocol.specs.Promises.{Holder, Flight, OneCarrier}
-use Rattle.squall_protocol.proofs.Lists.{at_one}
+use Rattle.squall_protocol.specs.ListLaws.{at_one}
 use Rattle.squall_rows.specs.Rows.{RowsValue, KeepsStored, KeepsCarried}
 use Rattle.squall_rows.specs.RowSteps.{TakesRows, InstallsRows, KeepsOthers, PlainStep}
 use Rattle.squall_rows.specs.Follows.{RowsFollow, CommandsFollow, NewIsHeldNowhere}

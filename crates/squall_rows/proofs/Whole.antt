@@ -14,10 +14,8 @@ use Rattle.squall_protocol.specs.declared.answer.Refusal.TheVariants.{NoSuch, No
 use Rattle.squall_protocol.specs.Worlds.{WorldValue, SameWorld, start}
 use Rattle.squall_protocol.specs.Steps.{after_give, after_load, GiveStep, GiveAtStep, LoadStep, Step, Run}
 use Rattle.squall_protocol.specs.Promises.{IsReached}
-use Rattle.squall_protocol.proofs.Courses.{old_owner}
-use Rattle.squall_protocol.proofs.Kept.{Kept}
-use Rattle.squall_protocol.proofs.Start.{kept_always}
-use Rattle.squall_protocol.proofs.Lists.{at_front, at_one}
+use Rattle.squall_protocol.proofs.ProtocolLaws.{one_chunk}
+use Rattle.squall_protocol.specs.ListLaws.{at_front, at_one}
 use Rattle.squall_rows.specs.Whole.{ChunksLoadWhole}
 use Rattle.squall_rows.proofs.Quiet.{Quiet, unchanged}
 use Rattle.squall_rows.proofs.Plain.{open_quiet, begin_quiet, begin_from_quiet, close_quiet, finish_quiet, send_quiet, send_part_quiet, deliver_quiet, route_quiet, serve_quiet}
@@ -158,12 +156,8 @@ came w reached = run_came (start reached.old reached.new reached.routers) reache
 one_way : (w : WorldValue) (i j k : ℕ) (x : ChunkValue) → IsReached w → slice_get w.chunks i ≡ Some x → span_has x.span j ≡ true → span_has x.span k ≡ true
     → w.loaded x.number x.dest j ≡ true → w.loaded x.number x.dest k ≡ true
 one_way w i j k x reached there has_j has_k h =
-    let kept : Kept w = kept_always w reached in
     let c : Came w x.number x.dest j = came w reached x.number x.dest j h in
-    let mine = kept.sent i x there j has_j in
-    let its = kept.sent c.index c.chunk c.there j c.inside in
-    let source : c.chunk.source ≡ x.source = sym (subst (λ n. old_owner w n j ≡ c.chunk.source) c.number its.source) ∙ mine.source in
-    let at : c.index ≡ i = kept.once c.index i c.chunk x j c.there there c.number source c.inside has_j in
+    let at : c.index ≡ i = one_chunk w reached c.index i j c.chunk x c.there there c.number c.inside has_j in
     let same : c.chunk ≡ x = at_one w.chunks i c.chunk x (subst (λ n. slice_get w.chunks n ≡ Some c.chunk) at c.there) there in
     c.whole k (subst (λ (y : ChunkValue). span_has y.span k ≡ true) (sym same) has_k)
 

@@ -1,5 +1,5 @@
 -- Beside each system of stores there is a run of a world with rows.
-use Rattle.std.proofs.Common.{◌≡◌, ℕ, ◌<◌, ◌==◌, Bool, true, false, List, [], ◌∷◌, ◌++◌, length, Result, Ok, Err, Option, None, Some, refl, sym, ap, ◌∙◌, subst, if◌then◌else◌, ⊎_elim, inl, inr, ap₂, le_refl, arith}
+use Rattle.std.proofs.Common.{◌≡◌, ℕ, ◌<◌, ◌==◌, Bool, true, false, List, [], ◌∷◌, ◌++◌, length, Result, Ok, Err, Option, None, Some, refl, sym, ap, ◌∙◌, subst, if◌then◌else◌, ⊎_elim, inl, inr, ap₂, arith}
 use Rattle.std.specs.List.{slice_get}
 use Rattle.std.proofs.lemmas.Bool.{cases_Bool, cond-true, cond-false, eq-eqb, eqb-true, ne_eqb, both_ways}
 use Rattle.std.proofs.lemmas.Option.{same_Some, slice_get_within}
@@ -13,13 +13,10 @@ use Rattle.squall_protocol.specs.declared.event.Event.TheVariants.{Give, GiveAt,
 use Rattle.squall_protocol.specs.declared.answer.Answer.{Answer}
 use Rattle.squall_protocol.specs.declared.answer.Answer.TheVariants.{Served}
 use Rattle.squall_protocol.specs.Worlds.{WorldValue, start}
-use Rattle.squall_protocol.specs.Steps.{Step}
 use Rattle.squall_protocol.specs.Promises.{IsReached, IsInFlight, Carrier, Carries, Holder, Flight}
 use Rattle.squall_protocol.specs.WorldLaws.{same_world, same_as_itself, reached_step}
-use Rattle.squall_protocol.proofs.Start.{kept_always}
-use Rattle.squall_protocol.proofs.Later.{Later, later_by}
-use Rattle.squall_protocol.proofs.Runs.{later_step}
-use Rattle.squall_protocol.proofs.Lists.{at_either}
+use Rattle.squall_protocol.proofs.ProtocolLaws.{loaded_stays}
+use Rattle.squall_protocol.specs.ListLaws.{at_either}
 use Rattle.squall_part.specs.declared.giving.GiveFault.{GiveFault}
 use Rattle.squall_part.specs.Parts.{PartValue, IsPart}
 use Rattle.squall_replay.specs.Calls.{IsSamePart}
@@ -105,6 +102,10 @@ record Comes {Row Command Reply : Type 0} (run : Command → Row → Row × Repl
   ran : done_of acts outcomes ≡ done
   has : Has first to s
 
+-- keys that are loaded in a world are loaded in the later one
+abbrev StayLoaded : WorldValue → WorldValue → Type 0
+StayLoaded w v = (n p k : ℕ) → w.loaded n p k ≡ true → v.loaded n p k ≡ true
+
 module _ {Row : Type 0} (first : Change) (w : RowsValue Row) (s : StoresValue Row) (has_all : Has first w s) where
   -- the store of a partition stands for it
   stands_in : (p : ℕ) (a : PartValue) → s.nodes.parts p ≡ Some a → StoreStandsFor w p a (s.rows p)
@@ -115,18 +116,14 @@ module _ {Row : Type 0} (first : Change) (w : RowsValue Row) (s : StoresValue Ro
   chunk_there i x e = ap (λ l. slice_get l i) has_all.nodes.stands.chunks ∙ e
 
   -- a key that is on its way was on its way before, and its row there stays
-  carried_on : (v : RowsValue Row) → KeepsCarried w v → Later w.world v.world → (i k : ℕ) (x : ChunkValue) → k < top → slice_get s.nodes.chunks i ≡ Some x → IsInFlight v.world x k → v.carried i k ≡ s.copies i k
+  carried_on : (v : RowsValue Row) → KeepsCarried w v → StayLoaded w.world v.world → (i k : ℕ) (x : ChunkValue) → k < top → slice_get s.nodes.chunks i ≡ Some x → IsInFlight v.world x k → v.carried i k ≡ s.copies i k
   carried_on v kept later i k x key there flight =
       let before : IsInFlight w.world x k = (flight.0, was (w.world.loaded x.number x.dest k) refl) in
       kept i k x key (chunk_there i x there) before ∙ has_all.carried i k x key there before
     where
       was : (b : Bool) → w.world.loaded x.number x.dest k ≡ b → w.world.loaded x.number x.dest k ≡ false
       was false e = e
-      was true e = absurd (both_ways (v.world.loaded x.number x.dest k) flight.1 (later.loaded x.number x.dest k e))
-
--- a step leads to a later world
-step_later : (w v : WorldValue) (e : Event) (r : Answer) → IsReached w → Step w e r v → Later w v
-step_later w v e r reached step = later_step w v e r (kept_always w reached) step
+      was true e = absurd (both_ways (v.world.loaded x.number x.dest k) flight.1 (later x.number x.dest k e))
 
 -- ---- one store moved
 
@@ -224,7 +221,7 @@ module _ {Row Command Reply : Type 0} (run : Command → Row → Row × Reply) (
   -- ---- gifts
 
   -- the next chunk carries the rows of the store, and the others what they carried
-  gift_carried : (v : RowsValue Row) (p : ℕ) (r : Result ChunkValue GiveFault) → KeepsCarried w v → Later w.world v.world → CarriesRows v (length w.world.chunks) r (s.rows p)
+  gift_carried : (v : RowsValue Row) (p : ℕ) (r : Result ChunkValue GiveFault) → KeepsCarried w v → StayLoaded w.world v.world → CarriesRows v (length w.world.chunks) r (s.rows p)
       → (i k : ℕ) (x : ChunkValue) → k < top → slice_get (with_chunk s.nodes.chunks r) i ≡ Some x → IsInFlight v.world x k → v.carried i k ≡ copies_with (length s.nodes.chunks) (s.rows p) r s.copies i k
   gift_carried v p (Err f) kept later rows i k x key there flight = carried_on first w s has_all v kept later i k x key there flight
   gift_carried v p (Ok y) kept later rows i k x key there flight = ⊎_elim old new (at_either s.nodes.chunks y i x there)
@@ -244,7 +241,7 @@ module _ {Row Command Reply : Type 0} (run : Command → Row → Row × Reply) (
           subst (λ n. v.carried n k ≡ s.rows p k) (count ∙ sym last.0) (rows k key inside) ∙ sym (cond-true (i == length s.nodes.chunks) (s.rows p k) (s.copies i k) (eq-eqb i (length s.nodes.chunks) last.0))
 
   -- what the system is after it
-  has_given : (v : RowsValue Row) (p : ℕ) (b : PartValue) (r : Result ChunkValue GiveFault) → IsPart b → IsReached v.world → KeepsCarried w v → Later w.world v.world
+  has_given : (v : RowsValue Row) (p : ℕ) (b : PartValue) (r : Result ChunkValue GiveFault) → IsPart b → IsReached v.world → KeepsCarried w v → StayLoaded w.world v.world
       → GaveRows w p b (s.rows p) r v → Has first v (after_gift s p b r)
   has_given v p b r is reached kept later gave = record {
     nodes = nodes_in first w v s has_all p b (s.rows p) (with_chunk w.world.chunks r) (with_chunk s.nodes.chunks r) gave.0 is (ap (λ l. with_chunk l r) has_all.nodes.stands.chunks) reached;
@@ -252,17 +249,17 @@ module _ {Row Command Reply : Type 0} (run : Command → Row → Row × Reply) (
     carried = gift_carried v p r kept later gave.1;
   }
 
-  still_later : Later w.world w.world
-  still_later = later_by w.world w.world refl refl refl (λ n. le_refl (w.world.opened n)) refl refl
+  still_loaded : StayLoaded w.world w.world
+  still_loaded n p k loaded = loaded
 
   given : (p : ℕ) (b : PartValue) (r : Result ChunkValue GiveFault) (e : Event) (o : Option Answer) → IsPart b → MovesOn w e o (GaveRows w p b (s.rows p) r) → on [] (after_gift s p b r)
-  given p b r e None is gave = no_act (after_gift s p b r) (has_given w p b r is has_all.nodes.reached (λ i k x key there flight. refl) still_later gave)
+  given p b r e None is gave = no_act (after_gift s p b r) (has_given w p b r is has_all.nodes.reached (λ i k x key there flight. refl) still_loaded gave)
   given p b r e (Some a) is (v, step, gave) =
-      plain_act v e a (after_gift s p b r) step (has_given v p b r is (reached_step w.world v.world e a has_all.nodes.reached step.0) step.2 (step_later w.world v.world e a has_all.nodes.reached step.0) gave)
+      plain_act v e a (after_gift s p b r) step (has_given v p b r is (reached_step w.world v.world e a has_all.nodes.reached step.0) step.2 (loaded_stays w.world v.world e a has_all.nodes.reached step.0) gave)
 
   -- ---- loads, and restarts
 
-  has_moved : (v : RowsValue Row) (p : ℕ) (b : PartValue) (rows : ℕ → Row) → IsPart b → IsReached v.world → KeepsCarried w v → Later w.world v.world
+  has_moved : (v : RowsValue Row) (p : ℕ) (b : PartValue) (rows : ℕ → Row) → IsPart b → IsReached v.world → KeepsCarried w v → StayLoaded w.world v.world
       → StoreStands w p b rows w.world.chunks v → Has first v (with_store s p b rows)
   has_moved v p b rows is reached kept later stands = record {
     nodes = nodes_in first w v s has_all p b rows w.world.chunks s.nodes.chunks stands is has_all.nodes.stands.chunks reached;
@@ -271,9 +268,9 @@ module _ {Row Command Reply : Type 0} (run : Command → Row → Row × Reply) (
   }
 
   moved : (p : ℕ) (b : PartValue) (rows : ℕ → Row) (e : Event) (o : Option Answer) → IsPart b → MovesOn w e o (StoreStands w p b rows w.world.chunks) → on [] (with_store s p b rows)
-  moved p b rows e None is stands = no_act (with_store s p b rows) (has_moved w p b rows is has_all.nodes.reached (λ i k x key there flight. refl) still_later stands)
+  moved p b rows e None is stands = no_act (with_store s p b rows) (has_moved w p b rows is has_all.nodes.reached (λ i k x key there flight. refl) still_loaded stands)
   moved p b rows e (Some a) is (v, step, stands) =
-      plain_act v e a (with_store s p b rows) step (has_moved v p b rows is (reached_step w.world v.world e a has_all.nodes.reached step.0) step.2 (step_later w.world v.world e a has_all.nodes.reached step.0) stands)
+      plain_act v e a (with_store s p b rows) step (has_moved v p b rows is (reached_step w.world v.world e a has_all.nodes.reached step.0) step.2 (loaded_stays w.world v.world e a has_all.nodes.reached step.0) stands)
 
   restarted : (p : ℕ) (a b : PartValue) (rows : ℕ → Row) → s.nodes.parts p ≡ Some a → IsSamePart a b → IsPart b → ((k : ℕ) → k < top → has a.held k ≡ true → rows k ≡ s.rows p k) → on [] (with_store s p b rows)
   restarted p a b rows there same is stay =
@@ -286,12 +283,12 @@ module _ {Row Command Reply : Type 0} (run : Command → Row → Row × Reply) (
         outcomes = Back ∷ [];
         by_run = (v, (same_as_itself w.world, keeps w p rows w.carried w.world a (s.rows p) own stay, (λ i k x key chunk flight. refl)), refl);
         ran = refl;
-        has = has_moved v p b rows is has_all.nodes.reached (λ i k x key chunk flight. refl) still_later stands;
+        has = has_moved v p b rows is has_all.nodes.reached (λ i k x key chunk flight. refl) still_loaded stands;
       }
 
   -- ---- other calls
 
-  has_followed : (v : RowsValue Row) (t : SystemValue) → Beside first v.world t → KeepsStored w v → KeepsCarried w v → Later w.world v.world → MovesNoKey s.nodes t → Has first v (record s { nodes = t })
+  has_followed : (v : RowsValue Row) (t : SystemValue) → Beside first v.world t → KeepsStored w v → KeepsCarried w v → StayLoaded w.world v.world → MovesNoKey s.nodes t → Has first v (record s { nodes = t })
   has_followed v t nodes stored carried later same = record {
     nodes = nodes;
     stored = λ p k b there key held.
@@ -304,12 +301,12 @@ module _ {Row Command Reply : Type 0} (run : Command → Row → Row × Reply) (
 
   followed : RowsFollow Row → (t : SystemValue) → MovesNoKey s.nodes t → (u : WorldValue) → Follows w.world u → Beside first u t → on [] (record s { nodes = t })
   followed follow t same u (inl still) nodes =
-      no_act (record s { nodes = t }) (has_followed w t (subst (λ x. Beside first x t) still nodes) (λ p k key old now. refl) (λ i k x key there flight. refl) still_later same)
+      no_act (record s { nodes = t }) (has_followed w t (subst (λ x. Beside first x t) still nodes) (λ p k key old now. refl) (λ i k x key there flight. refl) still_loaded same)
   followed follow t same u (inr (e, a, step)) nodes =
       let v = follow w e a u has_all.nodes.reached step in
       let world : v.0.world ≡ u = v.1 in
       plain_act v.0 e a (record s { nodes = t }) v.2
-      (has_followed v.0 t (subst (λ x. Beside first x t) (sym world) nodes) v.2.1 v.2.2 (step_later w.world v.0.world e a has_all.nodes.reached v.2.0) same)
+      (has_followed v.0 t (subst (λ x. Beside first x t) (sym world) nodes) v.2.1 v.2.2 (loaded_stays w.world v.0.world e a has_all.nodes.reached v.2.0) same)
 
   -- ---- any call
 

@@ -25,12 +25,10 @@ use Rattle.squall_protocol.specs.declared.answer.Answer.{Answer}
 use Rattle.squall_protocol.specs.declared.answer.Answer.TheVariants.{Begun, Refused}
 use Rattle.squall_protocol.specs.declared.answer.Refusal.TheVariants.{Running, NoNumber}
 use Rattle.squall_protocol.specs.Worlds.{WorldValue, SameWorld}
-use Rattle.squall_protocol.specs.Steps.{BeginStep, BeginFromStep, IsWhereLeft, last_count, after_begin, new_parts, told_to}
+use Rattle.squall_protocol.specs.Steps.{BeginStep, BeginFromStep, IsWhereLeft, after_begin, new_parts, told_to}
 use Rattle.squall_protocol.specs.Steps.{IsOver as WorldOver}
 use Rattle.squall_protocol.specs.Promises.{IsReached}
-use Rattle.squall_protocol.proofs.Begin.{over_left}
-use Rattle.squall_protocol.proofs.Open.{all_done}
-use Rattle.squall_protocol.proofs.Start.{kept_always}
+use Rattle.squall_protocol.proofs.ProtocolLaws.{over_left}
 use Rattle.squall_world.specs.Nets.{with_peer, PeerValue, NetValue, IsNet, IsRole, IsRouterAt, IsPartAt, IsChain, ArePlaced, role_board, place_of, peer_of, put_at, first_of, newest_of, no_course, is_part_peer, is_part_role, leader_in, part_in}
 use Rattle.squall_world.specs.Views.{view, course_under, id_of, ids_in, opened_by, opened_in, opened_under, part_of, held_by, closed_under, given_under, loaded_under, facts_of}
 use Rattle.squall_world.specs.Events.{HasLeader, IsCourseIn, IsDoneIn, IsBeginIn, IsBegunNet, named_first, part_peers}
@@ -303,10 +301,7 @@ done_over n net (peer, a, has, finished) =
 
 -- its new plan has each key where it leaves it
 done_left : (n : NetValue) → IsNet n → IsReached (view n) → IsDoneIn n → IsWhereLeft (view n) (newest_of n).new
-done_left n net reached done =
-    let over : WorldOver (view n) = done_over n net done in
-    let all : (view n).opened (view n).last ≡ last_count (view n) = over.0 in
-    subst (λ (d : Change). IsWhereLeft (view n) d.new) (last_seen n net) (over_left (view n) (kept_always (view n) reached) (all_done (view n) over.1) (omega (arith, all)))
+done_left n net reached done = subst (λ (d : Change). IsWhereLeft (view n) d.new) (last_seen n net) (over_left (view n) reached (done_over n net done))
 
 pub begin_keeps : (n : NetValue) (plan : List PlanRange) (answer : Answer) (m : NetValue) → IsNet n → IsBeginIn n plan (Ok answer) m → IsNet m
 begin_keeps n plan (Refused Running) m net (peer, a, has, running, after) = subst IsNet (sym after) net

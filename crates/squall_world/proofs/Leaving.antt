@@ -20,10 +20,7 @@ use Rattle.squall_protocol.specs.declared.answer.Refusal.TheVariants.{Running, N
 use Rattle.squall_protocol.specs.Worlds.{WorldValue, is_part, last_course}
 use Rattle.squall_protocol.specs.Steps.{IsPlan, LeavesAt, IsWhereLeft, HoldsOwn, BeginFromStep}
 use Rattle.squall_protocol.specs.Promises.{IsReached}
-use Rattle.squall_protocol.proofs.Courses.{Moves, moves_is, is_moves}
-use Rattle.squall_protocol.proofs.Kept.{Kept}
-use Rattle.squall_protocol.proofs.Left.{each_holds}
-use Rattle.squall_protocol.proofs.Start.{kept_always}
+use Rattle.squall_protocol.proofs.ProtocolLaws.{holder_there, left_held, own_left, moves_apart, apart_moves}
 use Rattle.squall_world.specs.Nets.{NetValue, PeerValue, IsNet, place_of, newest_of}
 use Rattle.squall_world.specs.Views.{view}
 use Rattle.squall_world.specs.Acts.{Loses, HasKeys}
@@ -55,37 +52,25 @@ in_tiling P (r ∷ rs) from to k tiles all ge lt = elim (cases_lt k r.span.hi) [
 
 -- ---- what the world says of a key that is left
 
-module _ (w : WorldValue) (kept : Kept w) (k p : ℕ) (key : k < top) (left : LeavesAt w w.last k p) where
-  -- the partition at which it is left is there, and holds it
-  pub left_held : w.held p k ≡ true
-  left_held = kept.held_from p k key (⊎_elim
-      (λ (x : (p ≡ owner_of (w.new w.last) k) × (owner_of (w.old w.last) k ≢ owner_of (w.new w.last) k → w.loaded w.last p k ≡ true)). inl x)
-      (λ (x : (p ≡ owner_of (w.old w.last) k) × (owner_of (w.old w.last) k ≢ owner_of (w.new w.last) k) × (w.given w.last p k ≡ false) × (w.closed w.last p ≡ true)). inr (x.0, x.1, x.2))
-      left)
-
+module _ (w : WorldValue) (reached : IsReached w) (k p : ℕ) (key : k < top) (left : LeavesAt w w.last k p) where
+  -- the partition at which it is left is there
   pub left_there : is_part w p ≡ true
-  left_there = ⊎_elim
-      (λ (x : (p ≡ owner_of (w.new w.last) k) × (owner_of (w.old w.last) k ≢ owner_of (w.new w.last) k → w.loaded w.last p k ≡ true)). subst (λ q. is_part w q ≡ true) (sym x.0) (kept.new_there w.last k (omega arith) key))
-      (λ (x : (p ≡ owner_of (w.old w.last) k) × (owner_of (w.old w.last) k ≢ owner_of (w.new w.last) k) × (w.given w.last p k ≡ false) × (w.closed w.last p ≡ true)). subst (λ q. is_part w q ≡ true) (sym x.0) (kept.old_there w.last k (omega arith) key))
-      left
+  left_there = holder_there w reached p k key (left_held w reached k p key left)
 
   -- if it is to leave that partition, that gives no more
-  pub left_closed : Moves w w.last k → owner_of (w.old w.last) k ≡ p → w.closed w.last p ≡ true
+  pub left_closed : owner_of (w.old w.last) k ≢ owner_of (w.new w.last) k → owner_of (w.old w.last) k ≡ p → w.closed w.last p ≡ true
   left_closed moving from = ⊎_elim
       (λ (x : (p ≡ owner_of (w.new w.last) k) × (owner_of (w.old w.last) k ≢ owner_of (w.new w.last) k → w.loaded w.last p k ≡ true)). absurd (moving (from ∙ x.0)))
       (λ (x : (p ≡ owner_of (w.old w.last) k) × (owner_of (w.old w.last) k ≢ owner_of (w.new w.last) k) × (w.given w.last p k ≡ false) × (w.closed w.last p ≡ true)). x.3)
       left
 
 module _ (n : NetValue) (net : IsNet n) (reached : IsReached (view n)) where
-  kept : Kept (view n)
-  kept = kept_always (view n) reached
-
   -- ---- from ranges to keys
 
   -- the partition of a key holds it, and gives no more if the key is to leave it
   record HasKey (p k : ℕ) : Type 0 where
     held : (view n).held p k ≡ true
-    closed : Moves (view n) (view n).last k → owner_of ((view n).old (view n).last) k ≡ p → (view n).closed (view n).last p ≡ true
+    closed : owner_of ((view n).old (view n).last) k ≢ owner_of ((view n).new (view n).last) k → owner_of ((view n).old (view n).last) k ≡ p → (view n).closed (view n).last p ≡ true
 
   has_key : (r : PlanRange) (k : ℕ) → HasRange n r → span_has r.span k ≡ true → HasKey r.part k
   has_key r k x keys =
@@ -96,11 +81,11 @@ module _ (n : NetValue) (net : IsNet n) (reached : IsReached (view n)) where
             let last = last_seen n net in
             stands.closed (view n).last
             ∙ ap (λ (c : Change). closed_by x.part c.number) last
-            ∙ x.keys.closed (k, keys, subst (λ (c : Change). moves c.old c.new k ≡ true) last (moves_is ((view n).old (view n).last) ((view n).new (view n).last) k moving), subst (λ (c : Change). owner_of c.old k ≡ r.part) last from);
+            ∙ x.keys.closed (k, keys, subst (λ (c : Change). moves c.old c.new k ≡ true) last (moves_apart ((view n).old (view n).last) ((view n).new (view n).last) k moving), subst (λ (c : Change). owner_of c.old k ≡ r.part) last from);
       }
 
   pub left_in : (old : List PlanRange) → IsPlan old → IsLeftIn n old → IsWhereLeft (view n) old
-  left_in old is all = each_holds (view n) kept old (λ p. record {
+  left_in old is all = own_left (view n) reached old (λ p. record {
     held = λ k key owner. (at p k key owner).held;
     closed = λ k key owner moving from. (at p k key owner).closed moving from;
   })
@@ -119,7 +104,7 @@ module _ (n : NetValue) (net : IsNet n) (reached : IsReached (view n)) where
   range_in : (r : PlanRange) → r.span.lo < r.span.hi → r.span.hi ≤ top → ((k : ℕ) → span_has r.span k ≡ true → LeavesAt (view n) (view n).last k r.part) → HasRange n r
   range_in r some high left =
       let first : span_has r.span r.span.lo ≡ true = inside r.span r.span.lo (omega arith) some in
-      let there = left_there (view n) kept r.span.lo r.part (omega (arith, some, high)) (left r.span.lo first) in
+      let there = left_there (view n) reached r.span.lo r.part (omega (arith, some, high)) (left r.span.lo first) in
       let f = found r.part (place_of n (Part r.part)) refl (sym (part_seen_there n r.part) ∙ there) in
       let stands = part_stands n r.part f.0 f.1 f.2 net f.3 in
       let last = last_seen n net in
@@ -129,11 +114,11 @@ module _ (n : NetValue) (net : IsNet n) (reached : IsReached (view n)) where
         part = f.2;
         has = f.3;
         keys = record {
-          held = λ k keys. sym (stands.held k) ∙ left_held (view n) kept k r.part (low k keys) (left k keys);
+          held = λ k keys. sym (stands.held k) ∙ left_held (view n) reached k r.part (low k keys) (left k keys);
           closed = λ x.
-              let moving = is_moves ((view n).old (view n).last) ((view n).new (view n).last) x.0 (subst (λ (c : Change). moves c.old c.new x.0 ≡ true) (sym last) x.2) in
+              let moving = apart_moves ((view n).old (view n).last) ((view n).new (view n).last) x.0 (subst (λ (c : Change). moves c.old c.new x.0 ≡ true) (sym last) x.2) in
               let from = subst (λ (c : Change). owner_of c.old x.0 ≡ r.part) (sym last) x.3 in
-              ap (λ (c : Change). closed_by f.2 c.number) (sym last) ∙ sym (stands.closed (view n).last) ∙ left_closed (view n) kept x.0 r.part (low x.0 x.1) (left x.0 x.1) moving from;
+              ap (λ (c : Change). closed_by f.2 c.number) (sym last) ∙ sym (stands.closed (view n).last) ∙ left_closed (view n) reached x.0 r.part (low x.0 x.1) (left x.0 x.1) moving from;
         };
       }
     where

@@ -1,17 +1,14 @@
 -- The map of a world with rows has of each key the row at its one carrier.
-use Rattle.std.proofs.Common.{◌≡◌, ◌⊎◌, ℕ, zero, suc, ◌+◌, ◌<◌, ◌==◌, ◌&&◌, ◌||◌, not, true, false, List, [], ◌∷◌, refl, sym, ap, subst, ◌∙◌, inl, inr, ⊎_elim, arith, if◌then◌else◌}
+use Rattle.std.proofs.Common.{◌≡◌, ◌⊎◌, ℕ, zero, suc, ◌+◌, ◌<◌, ◌==◌, ◌&&◌, ◌||◌, not, true, false, List, [], ◌∷◌, refl, sym, ap, subst, ◌∙◌, ⊎_elim, arith, if◌then◌else◌}
 use Rattle.std.specs.Prelude.{None, Some, nat_lt}
 use Rattle.std.specs.List.{slice_get, list_any}
 use Rattle.std.proofs.lemmas.Bool.{and_parts, and_from, or_cases, cases_Bool, cond-true, cond-false, both_ways, eqb-true, not-true, not_from_false, lt-ltb, ltb-true, false_from_ne_true}
 use Rattle.squall_key.specs.Keys.{top}
 use Rattle.squall_span.specs.Spans.{span_has}
 use Rattle.squall_protocol.specs.Chunks.{ChunkValue}
-use Rattle.squall_protocol.specs.Worlds.{WorldValue, is_part}
+use Rattle.squall_protocol.specs.Worlds.{WorldValue}
 use Rattle.squall_protocol.specs.Promises.{IsReached, Carrier, Holder, Flight, Carries}
-use Rattle.squall_protocol.proofs.Courses.{old_owner, new_owner}
-use Rattle.squall_protocol.proofs.Kept.{Kept, Holds}
-use Rattle.squall_protocol.proofs.Start.{kept_always}
-use Rattle.squall_protocol.proofs.Carriers.{one_carrier}
+use Rattle.squall_protocol.proofs.ProtocolLaws.{one_carrier, holder_there}
 use Rattle.squall_rows.specs.Rows.{RowsValue, carried_row}
 use Rattle.squall_rows.proofs.Quiet.{HasRows}
 use Rattle.squall_world_rows.specs.Seen.{BytesRow}
@@ -69,18 +66,11 @@ module _ (w : RowsValue BytesRow) (k : ℕ) (r : BytesRow) where
   none_holds [] none = refl
   none_holds (q ∷ ps) none = cond-false (w.world.held q k) (w.stored q k) (row_held w k ps) (none q) ∙ none_holds ps none
 
-  -- a partition that holds a key is there
-  holder_there : Kept w.world → k < top → (p : ℕ) → w.world.held p k ≡ true → is_part w.world p ≡ true
-  holder_there kept key p held = elim (kept.held_true p k held) [
-    | inl new ↦ subst (λ q. is_part w.world q ≡ true) (sym new.0) (kept.new_there w.world.last k (omega arith) key)
-    | inr old ↦ subst (λ q. is_part w.world q ≡ true) (sym old.0) (kept.old_there w.world.last k (omega arith) key)
-  ]
-
   -- whatever carries the key has the row, so the map has it
-  found : Kept w.world → k < top → ((y : Carrier) → Carries w.world k y → carried_row w y k ≡ r) → (x : Carrier) → Carries w.world k x → ((y : Carrier) → Carries w.world k y → y ≡ x)
+  found : IsReached w.world → k < top → ((y : Carrier) → Carries w.world k y → carried_row w y k ≡ r) → (x : Carrier) → Carries w.world k x → ((y : Carrier) → Carries w.world k y → y ≡ x)
       → row_held w k w.world.parts ≡ r
-  found kept key all (Holder p) c only = holder_found w.world.parts p (holder_there kept key p c) c (λ q held. all (Holder q) held)
-  found kept key all (Flight i) c only =
+  found reached key all (Holder p) c only = holder_found w.world.parts p (holder_there w.world reached p k key c) c (λ q held. all (Holder q) held)
+  found reached key all (Flight i) c only =
       none_holds w.world.parts (λ q. false_from_ne_true (w.world.held q k) (λ held. apart q i (only (Holder q) held)))
       ∙ flight_found w.world.chunks 0 i c.0 c.1 (and_from (span_has c.0.span k) (not (w.world.loaded c.0.number c.0.dest k)) c.2.0 (not_from_false (w.world.loaded c.0.number c.0.dest k) c.2.1))
       (λ j y there flies.
@@ -94,15 +84,12 @@ module _ (w : RowsValue BytesRow) (k : ℕ) (r : BytesRow) where
 pub map_is : (w : RowsValue BytesRow) (m : ℕ → BytesRow) → IsReached w.world → HasRows w m → ((k : ℕ) → nat_lt k top ≡ false → m k ≡ None) → map_of w ≡ m
 map_is w m reached rows beyond = λ i. λ k. each k i
   where
-    kept : Kept w.world
-    kept = kept_always w.world reached
-
     each : (k : ℕ) → map_of w k ≡ m k
     each k = ⊎_elim
         (λ (key : nat_lt k top ≡ true).
-        let only = one_carrier w.world kept k (ltb-true k top key) in
+        let only = one_carrier w.world reached k (ltb-true k top key) in
         cond-true (nat_lt k top) (row_held w k w.world.parts) None key
-        ∙ found w k (m k) kept (ltb-true k top key) (rows k (ltb-true k top key)) only.0 only.1 only.2)
+        ∙ found w k (m k) reached (ltb-true k top key) (rows k (ltb-true k top key)) only.0 only.1 only.2)
         (λ (past : nat_lt k top ≡ false). cond-false (nat_lt k top) (row_held w k w.world.parts) None past ∙ sym (beyond k past))
         (cases_Bool (nat_lt k top))
 
@@ -113,8 +100,7 @@ beyond_keys w k past = cond-false (nat_lt k top) (row_held w k w.world.parts) No
 -- whatever carries a key has the map's row of it
 pub has_map : (w : RowsValue BytesRow) → IsReached w.world → HasRows w (map_of w)
 has_map w reached k key y c =
-    let kept : Kept w.world = kept_always w.world reached in
-    let only = one_carrier w.world kept k key in
+    let only = one_carrier w.world reached k key in
     let same : (z : Carrier) → Carries w.world k z → carried_row w z k ≡ carried_row w y k = λ z d. ap (λ x. carried_row w x k) (only.2 z d ∙ sym (only.2 y c)) in
     sym (cond-true (nat_lt k top) (row_held w k w.world.parts) None (lt-ltb k top key)
-    ∙ found w k (carried_row w y k) kept key same only.0 only.1 only.2)
+    ∙ found w k (carried_row w y k) reached key same only.0 only.1 only.2)

@@ -25,9 +25,8 @@ use Rattle.squall_protocol.specs.Worlds.{WorldValue, SameWorld, start}
 use Rattle.squall_protocol.specs.Steps.{after_give, after_load, GiveStep, GiveAtStep, LoadStep, Step}
 use Rattle.squall_protocol.specs.Promises.{IsReached, Holder, Flight}
 use Rattle.squall_protocol.specs.WorldLaws.{same_as_itself, reached_step}
-use Rattle.squall_protocol.proofs.Start.{kept_always}
-use Rattle.squall_protocol.proofs.Carriers.{one_carrier}
-use Rattle.squall_protocol.proofs.Lists.{at_front, at_end}
+use Rattle.squall_protocol.proofs.ProtocolLaws.{one_carrier}
+use Rattle.squall_protocol.specs.ListLaws.{at_front, at_end}
 use Rattle.squall_rows.specs.Rows.{RowsValue, KeepsStored, KeepsCarried, AreOneMap}
 use Rattle.squall_rows.specs.RowSteps.{Plain, Ask, Answered, Ran, MovesRows, TakesRows, InstallsRows, PlainStep, RestartStep, RowStep}
 use Rattle.squall_rows.proofs.Quiet.{HasRows, Quiet, unchanged}
@@ -163,7 +162,7 @@ module _ (n : RowNetValue) (is : IsRowWorld n) (reached : IsReached (view n.net)
       let here = and_parts (p == s.chunk.dest) (span_has s.chunk.span k) new.1 in
       let missing : (view n.net).loaded s.chunk.number s.chunk.dest k ≡ false = is.loaded i k s there here.1 ∙ not-true s.loaded new.0 in
       both_ways ((view n.net).held p k)
-      (new_is_held_nowhere (λ w r. one_carrier w (kept_always w r)) (view n.net) i p k s.chunk reached key (chunk_at n.sent n.net.chunks is.chunks i s there) here.1 missing) held
+      (new_is_held_nowhere one_carrier (view n.net) i p k s.chunk reached key (chunk_at n.sent n.net.chunks is.chunks i s there) here.1 missing) held
 
   module _ (i : ℕ) (rows : List Values) (outside : (p k : ℕ) → brings (slice_get n.sent i) p k ≡ false → stored_in rows p k ≡ stored_in n.rows p k) where
     -- a key that is held keeps its row
@@ -327,7 +326,7 @@ first_empty net rows sent old new routers reached same no_more none_sent =
 -- ---- always
 
 pub map_carried : (w : RowsValue BytesRow) → IsReached w.world → AreOneMap w (map_of w)
-map_carried w reached k key = let only = one_carrier w.world (kept_always w.world reached) k key in (only.0, only.1, only.2, has_map w reached k key only.0 only.1)
+map_carried w reached k key = let only = one_carrier w.world reached k key in (only.0, only.1, only.2, has_map w reached k key only.0 only.1)
 
 -- a call that changed nothing changed nothing that counts
 pub no_change_if : (n m : RowNetValue) (r : Result Answer AllocError) → OnErr r (m ≡ n) → OnErr r (RestartStep (seen n) (seen m))

@@ -1,20 +1,17 @@
 -- Whether chunks were loaded is noted rightly, whatever happens.
-use Rattle.std.proofs.Common.{◌≡◌, ◌≢◌, ◌⊎◌, ℕ, ◌+◌, ◌==◌, ◌&&◌, ◌||◌, true, false, List, [], ◌∷◌, ◌++◌, length, refl, sym, ap, subst, ◌∙◌, ⊎_elim}
+use Rattle.std.proofs.Common.{◌≡◌, ◌≢◌, ◌⊎◌, ℕ, ◌+◌, ◌==◌, ◌&&◌, ◌||◌, true, false, List, [], ◌∷◌, ◌++◌, length, refl, sym, subst, ◌∙◌, ⊎_elim}
 use Rattle.std.specs.Prelude.{Some, Bool, map}
 use Rattle.std.specs.List.{slice_get}
 use Rattle.std.proofs.lemmas.Bool.{and_parts, and_from, or_left, or_right, or_cases, cases_Bool, cases_eq, both_ways, eqb-true, eq-eqb, false_from_ne_true}
 use Rattle.std.proofs.lemmas.Option.{same_Some}
 use Rattle.squall_span.specs.Spans.{span_has}
-use Rattle.squall_plan.specs.Ranges.{owner_of}
 use Rattle.squall_store.specs.Memory.{Values}
 use Rattle.squall_protocol.specs.Chunks.{ChunkValue}
 use Rattle.squall_protocol.specs.Worlds.{WorldValue, SameWorld}
 use Rattle.squall_protocol.specs.Steps.{after_give, after_load}
 use Rattle.squall_protocol.specs.Promises.{IsReached}
-use Rattle.squall_protocol.proofs.Courses.{old_owner}
-use Rattle.squall_protocol.proofs.Kept.{Kept}
-use Rattle.squall_protocol.proofs.Start.{kept_always}
-use Rattle.squall_protocol.proofs.Lists.{at_front, at_end, at_either}
+use Rattle.squall_protocol.proofs.ProtocolLaws.{loaded_chunk, one_chunk}
+use Rattle.squall_protocol.specs.ListLaws.{at_front, at_end, at_either}
 use Rattle.squall_rows.proofs.Quiet.{Quiet}
 use Rattle.squall_world_rows.specs.declared.sent.Sent.{Sent}
 use Rattle.squall_world_rows.specs.Seen.{with_loaded}
@@ -39,14 +36,11 @@ none_at_length (y ∷ xs) x e = none_at_length xs x e
 -- no key of a chunk that is given is loaded
 fresh : (w v : WorldValue) (x : ChunkValue) → IsReached w → IsReached v → SameWorld v (after_give w x) → (k : ℕ) → span_has x.span k ≡ true → w.loaded x.number x.dest k ≡ false
 fresh w v x before after same k inside = false_from_ne_true (w.loaded x.number x.dest k) (λ loaded.
-    let old : Kept w = kept_always w before in
-    let new : Kept v = kept_always v after in
-    let c = old.somewhere x.number (old_owner w x.number k) k (old.loaded x.number x.dest k loaded).given in
+    let c = loaded_chunk w before x.number x.dest k loaded in
     let on_way = subst (λ xs. slice_get xs (length w.chunks) ≡ Some x) (sym same.chunks) (at_end w.chunks x) in
-    let was = subst (λ xs. slice_get xs c.index ≡ Some c.chunk) (sym same.chunks) (at_front w.chunks (x ∷ []) c.index c.chunk c.there) in
-    let source = c.source ∙ sym (ap (λ plan. owner_of plan k) (same.old x.number)) ∙ (new.sent (length w.chunks) x on_way k inside).source in
-    let at : c.index ≡ length w.chunks = new.once c.index (length w.chunks) c.chunk x k was on_way c.number source c.keys inside in
-    none_at_length w.chunks c.chunk (subst (λ n. slice_get w.chunks n ≡ Some c.chunk) at c.there))
+    let was = subst (λ xs. slice_get xs c.0 ≡ Some c.1) (sym same.chunks) (at_front w.chunks (x ∷ []) c.0 c.1 c.2) in
+    let at : c.0 ≡ length w.chunks = one_chunk v after c.0 (length w.chunks) k c.1 x was on_way c.3 c.4 inside in
+    none_at_length w.chunks c.1 (subst (λ n. slice_get w.chunks n ≡ Some c.1) at c.2))
 
 pub gift_noted : (w v : WorldValue) (x : ChunkValue) (rows : Values) (sent : List Sent) → IsReached w → IsReached v → SameWorld v (after_give w x) → Noted w sent → Noted v (sent ++ new_slot x rows ∷ [])
 gift_noted w v x rows sent before after same noted i k s there inside = ⊎_elim
@@ -65,12 +59,10 @@ module _ (w : WorldValue) (reached : IsReached w) (i : ℕ) (x : ChunkValue) (th
 
   other_chunk : (j k : ℕ) (y : ChunkValue) → slice_get w.chunks j ≡ Some y → span_has y.span k ≡ true → loads_now y.number y.dest k ≡ true → i ≡ j
   other_chunk j k y here inside now =
-      let kept : Kept w = kept_always w reached in
       let a = and_parts (y.number == x.number) ((y.dest == x.dest) && span_has x.span k) now in
       let b = and_parts (y.dest == x.dest) (span_has x.span k) a.1 in
       let number : x.number ≡ y.number = sym (eqb-true y.number x.number a.0) in
-      let source : x.source ≡ y.source = sym (kept.sent i x there k b.1).source ∙ ap (λ n. old_owner w n k) number ∙ (kept.sent j y here k inside).source in
-      kept.once i j x y k there here number source b.1 inside
+      one_chunk w reached i j k x y there here number b.1 inside
 
   itself_now : (k : ℕ) → span_has x.span k ≡ true → loads_now x.number x.dest k ≡ true
   itself_now k inside = and_from (x.number == x.number) ((x.dest == x.dest) && span_has x.span k) (eq-eqb x.number x.number refl) (and_from (x.dest == x.dest) (span_has x.span k) (eq-eqb x.dest x.dest refl) inside)

@@ -8,8 +8,7 @@ use Rattle.squall_protocol.specs.declared.event.Event.{Event}
 use Rattle.squall_protocol.specs.declared.answer.Answer.{Answer}
 use Rattle.squall_protocol.specs.Promises.{IsReached}
 use Rattle.squall_protocol.specs.WorldLaws.{reached_step}
-use Rattle.squall_protocol.proofs.Start.{kept_always}
-use Rattle.squall_protocol.proofs.Carriers.{one_carrier}
+use Rattle.squall_protocol.proofs.ProtocolLaws.{one_carrier}
 use Rattle.squall_errand.specs.declared.errand.Reply.TheVariants.{Held}
 use Rattle.squall_protocol.specs.declared.event.Event.TheVariants.{Serve}
 use Rattle.squall_protocol.specs.declared.answer.Answer.TheVariants.{Served}
@@ -39,7 +38,7 @@ module _ {Command : Type 0} (run : Command → BytesRow → BytesRow × BytesRow
   pub command_changes : IsReached w.world → RunStep run w p k after command reply v → map_of v ≡ with_row (map_of w) k (run command (map_of w k)).0
   command_changes reached step =
       map_is v (with_row (map_of w) k (run command (map_of w k)).0) (reached_step w.world v.world (Serve p k after) (Served Held) reached step.1)
-      (ran_rows run w v (map_of w) p k after command reply (one_carrier w.world (kept_always w.world reached)) step (has_map w reached)) beyond
+      (ran_rows run w v (map_of w) p k after command reply (one_carrier w.world reached) step (has_map w reached)) beyond
     where
       beyond : (j : ℕ) → nat_lt j top ≡ false → with_row (map_of w) k (run command (map_of w k)).0 j ≡ None
       beyond j past =

@@ -1,7 +1,7 @@
 use Rattle.std.proofs.Common.{◌≡◌, ℕ, ◌<◌, ◌≤◌, Some, length, get_or, refl, subst, ◌∙◌, arith}
 use Rattle.std.specs.List.{slice_get}
 use Rattle.std.proofs.lemmas.Option.{slice_get_read, slice_get-get_or, slice_get_within, get_or_from_slice_get}
-use Rattle.squall_protocol.proofs.Lists.{at_one}
+use Rattle.squall_protocol.specs.ListLaws.{at_one}
 use Rattle.squall_judge.specs.declared.log.Log.{Log}
 use Rattle.squall_judge.proofs.Nodes.{below}
 use Rattle.squall_judge.proofs.judging.are_all.Goals as goal

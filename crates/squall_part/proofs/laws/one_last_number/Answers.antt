@@ -1,5 +1,5 @@
 use Rattle.squall_part.specs.Serving.{GaveUnder, ComesUnder}
-use Rattle.squall_protocol.proofs.Greatest.{same_greatest}
+use Rattle.squall_protocol.specs.FirstsLaws.{same_greatest}
 use Rattle.squall_part.proofs.laws.one_last_number.Goals as goal
 
 pub returns-clause-given : goal.returns-clause-given
