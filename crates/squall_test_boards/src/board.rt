@@ -9,23 +9,12 @@ mod tolerant;
 use squall_board::*;
 use squall_join::Flat;
 use squall_report::Report;
-use squall_test_example::{issue, load};
+use squall_test_example::{issue, load, take};
 use std::alloc::Global;
 
 /// The reports of a load at partition 3 and of the completion of partition 4.
 pub(crate) fn two_reports() -> Option<[Report; 2]> {
     Some([load("2:0", "3:0")?, Report::done(1, 0, 4)?])
-}
-
-/// Takes the report, if there is one. None if an allocation fails.
-///
-/// A helper of its own, as most here are: it owns no board. A proof of a test costs more with each
-/// value that the test owns, on each way out of it. So a test makes its boards, and lends them to a
-/// function that looks at them.
-pub(crate) fn take(board: &mut Board, report: Option<Report>) -> Option<()> {
-    let report = report?;
-    board.take(&report).ok()?;
-    Some(())
 }
 
 /// The report that the plan of a text follows that of another under the number.
@@ -34,6 +23,10 @@ pub(crate) fn issued(alloc: Global, number: u32, old: &str, new: &str) -> Option
 }
 
 /// Takes that one plan follows the other under the number. None if an allocation fails.
+///
+/// A helper of its own, as most here are: it owns no board. A proof of a test costs more with each
+/// value that the test owns, on each way out of it. So a test makes its boards, and lends them to a
+/// function that looks at them.
 fn take_issue(alloc: Global, board: &mut Board, number: u32, old: &str, new: &str) -> Option<()> {
     take(board, issued(alloc, number, old, new))
 }

@@ -1,6 +1,7 @@
 //! What tests share: two example plans, the course between them, and a few makers of values from text.
 #![tactic(auto)]
 
+use squall_board::Board;
 use squall_course::Course;
 use squall_key::Bound;
 use squall_plan::Plan;
@@ -83,4 +84,10 @@ fn issue_from(alloc: Global, old: &Plan, new: &str) -> Option<Arc<Issue>> {
 pub fn issue(alloc: Global, old: &str, new: &str) -> Option<Arc<Issue>> {
     let old = plan(alloc, old)?;
     issue_from(alloc, &old, new)
+}
+
+/// The board takes the report, if there is one. None also if an allocation fails.
+pub fn take(board: &mut Board, report: Option<Report>) -> Option<()> {
+    let report = report?;
+    board.take(&report).ok()
 }

@@ -12,7 +12,7 @@ use crate::example::{course, issued};
 use squall_board::Board;
 use squall_report::Report;
 use squall_router::Router;
-use squall_test_example::{NEW, OLD, load};
+use squall_test_example::{NEW, OLD, load, take};
 use std::alloc::Global;
 
 /// What a message tells.
@@ -43,9 +43,9 @@ pub(crate) fn report(alloc: Global, said: Said) -> Option<Report> {
 
 /// The board of one report.
 pub(crate) fn delta(alloc: Global, said: Said) -> Option<Board> {
-    let report = report(alloc, said)?;
+    let report = report(alloc, said);
     let mut delta = Board::new(alloc);
-    delta.take(&report).ok()?;
+    take(&mut delta, report)?;
     Some(delta)
 }
 

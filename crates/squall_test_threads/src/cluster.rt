@@ -23,6 +23,7 @@ use squall_cluster::{
 use squall_course::Course;
 use squall_key::Key;
 use squall_report::Report;
+use squall_test_example::take;
 use std::alloc::Global;
 use std::sync::{Arc, Wait};
 
@@ -79,12 +80,6 @@ fn two_letters(alloc: Global) -> Option<(Letter, Letter)> {
     let first = load_letter(alloc)?;
     let second = done_letter()?;
     Some((first, second))
-}
-
-/// The board takes the report. None if an allocation fails.
-fn take(board: &mut Board, report: Option<Report>) -> Option<()> {
-    let report = report?;
-    board.take(&report).ok()
 }
 
 /// The board takes the load and the completion. None if an allocation fails.

@@ -7,13 +7,13 @@ ghost use Rattle.squall_report.specs.Openings.{opened_by};
 ghost use Rattle.squall_board.specs.Boards.{HasTaken};
 ghost use Rattle.squall_board.specs.CourseRoute.{route_by_newest, route_by_reports};
 
-use super::{take, take_issue};
+use super::take_issue;
 use squall_board::Board;
 use squall_board::laws::{taken_openings_count, taken_reports_route};
 use squall_course::Course;
 use squall_key::{Key, PartId};
 use squall_report::Report;
-use squall_test_example::{NEW, OLD, course, holds};
+use squall_test_example::{NEW, OLD, course, holds, take};
 use std::alloc::{AllocError, Global};
 use std::process::Abort;
 

@@ -5,15 +5,9 @@ use crate::board::{has_one_issue, issued, two_reports};
 use squall_board::{Board, Cell};
 use squall_report::Report;
 use squall_span::SpanSet;
-use squall_test_example::{NEW, OLD, holds, load};
+use squall_test_example::{NEW, OLD, holds, load, take};
 use std::alloc::Global;
 use std::process::Abort;
-
-/// Takes the report, if there is one. None also if an allocation fails.
-fn take(board: &mut Board, report: Option<Report>) -> Option<()> {
-    let report = report?;
-    board.take(&report).ok()
-}
 
 /// Takes a load and an opening.
 fn take_small(board: &mut Board) -> Option<()> {

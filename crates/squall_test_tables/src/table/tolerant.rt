@@ -7,14 +7,13 @@ use crate::table::patches::patch;
 use squall_board::{Board, Delta};
 use squall_course::Course;
 use squall_table::RouteTable;
-use squall_test_example::{course, load};
+use squall_test_example::{course, load, take};
 use std::alloc::{AllocError, Global};
 use std::process::Abort;
 
 /// Takes the load. None if an allocation fails.
 fn take_load(delta: &mut Delta) -> Option<()> {
-    let report = load("2:0", "2:7")?;
-    delta.take(&report).ok()
+    take(delta, load("2:0", "2:7"))
 }
 
 /// The delta of a load. None if an allocation fails.
