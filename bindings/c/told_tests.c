@@ -53,7 +53,7 @@ static void what_a_router_was_told_in_numbers(void) {
 }
 
 static const char LINES[] =
-    "course 1 moves 2 sub-plans 1 open 0 loaded 10737418240 of 17179869184 keys 625/1000\n"
+    "course 1 moves 0 of 2 sub-plans 0 of 1 open 0 loaded 10737418240 of 17179869184 keys share 583/1000\n"
     "sub-plan 0 receivers 0 of 2 done\n"
     "move [2:0,3:0) 1 to 3 sub 0 loaded 2147483648 of 4294967296 missing [2:2147483648,3:0)\n"
     "move [6:0,9:0) 3 to 4 sub 0 loaded 8589934592 of 12884901888 missing [7:0,8:0)\n";
@@ -87,7 +87,7 @@ static void the_picture(void) {
     text[len] = 7;
     CHECK(squall_router_picture(router, text, len) == len && text[len] == 7);
     CHECK(memcmp(text, "<svg ", 5) == 0 && memcmp(text + len - 7, "</svg>\n", 7) == 0);
-    CHECK(has_text(text, len, ", loaded 10737418240 of 17179869184 keys, 625/1000"));
+    CHECK(has_text(text, len, ", loaded 10737418240 of 17179869184 keys, share 583/1000"));
     CHECK(squall_router_picture(router, text, len - 1) == len);
     free(text);
     drop_router(router);

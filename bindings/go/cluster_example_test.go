@@ -147,7 +147,7 @@ func ExampleRouter_StatusText() {
 	}
 	fmt.Print(text)
 	// Output:
-	// course 1 moves 1 sub-plans 1 open 0 loaded 0 of 18446744060824649728 keys 0/1000
+	// course 1 moves 0 of 1 sub-plans 0 of 1 open 0 loaded 0 of 18446744060824649728 keys share 0/1000
 	// sub-plan 0 receivers 0 of 1 done
 	// move [2:0,end) 1 to 3 sub 0 not started
 }

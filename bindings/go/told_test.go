@@ -55,7 +55,7 @@ func TestCountsOfARouter(t *testing.T) {
 func TestTheStatusAsLines(t *testing.T) {
 	text, err := told(t).StatusText()
 	succeeds(t, err)
-	equals(t, text, `course 1 moves 2 sub-plans 1 open 0 loaded 10737418240 of 17179869184 keys 625/1000
+	equals(t, text, `course 1 moves 0 of 2 sub-plans 0 of 1 open 0 loaded 10737418240 of 17179869184 keys share 583/1000
 sub-plan 0 receivers 0 of 2 done
 move [2:0,3:0) 1 to 3 sub 0 loaded 2147483648 of 4294967296 missing [2:2147483648,3:0)
 move [6:0,9:0) 3 to 4 sub 0 loaded 8589934592 of 12884901888 missing [7:0,8:0)
@@ -66,7 +66,7 @@ func TestThePicture(t *testing.T) {
 	picture, err := told(t).Picture()
 	succeeds(t, err)
 	if !strings.HasPrefix(picture, "<svg ") || !strings.HasSuffix(picture, "</svg>\n") ||
-		!strings.Contains(picture, ", loaded 10737418240 of 17179869184 keys, 625/1000") {
+		!strings.Contains(picture, ", loaded 10737418240 of 17179869184 keys, share 583/1000") {
 		t.Errorf("it is %s", picture)
 	}
 }

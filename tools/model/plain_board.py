@@ -258,11 +258,14 @@ class Board:
         counts = [size(self.come(change, *move)) for move in change.moves]
         came, total = sum(counts), size((lo, hi) for lo, hi, _ in change.moves)
         last = min(self.opened.get(change.number, 0), change.count) - 1
-        yield (f"course {change.number} moves {len(change.moves)} sub-plans {change.count} open "
+        shares = [count * 1000 // (hi - lo) for (lo, hi, _), count in zip(change.moves, counts)]
+        receivers = [{(change.number, sub, kind[1]) for _, _, kind in change.moves if kind[2] == sub}
+                     for sub in range(change.count)]
+        yield (f"course {change.number} moves {shares.count(1000)} of {len(shares)} "
+               f"sub-plans {sum(due <= self.done for due in receivers)} of {change.count} open "
                f"{last if last >= 0 else 'none'} loaded {came} of {total} keys "
-               f"{came * 1000 // total if total else 1000}/1000")
-        for sub in range(change.count):
-            due = {(change.number, sub, kind[1]) for _, _, kind in change.moves if kind[2] == sub}
+               f"share {sum(shares) // len(shares) if shares else 1000}/1000")
+        for sub, due in enumerate(receivers):
             yield f"sub-plan {sub} receivers {len(due & self.done)} of {len(due)} done"
         for (lo, hi, kind), count in zip(change.moves, counts):
             missing = minus([(lo, hi)], self.come(change, lo, hi, kind))

@@ -6,7 +6,8 @@ from plain_board import rank_of
 
 SPAN = r"\[([^,]+),([^)]+)\)"
 MOVE = rf"move {SPAN} (\d+) to (\d+) sub (\d+)(?: (complete|not started|loaded (\d+) of \d+ missing {SPAN}))?"
-COURSE = r"course (\d+) moves (\d+) sub-plans (\d+) open (\w+) loaded (\d+) of (\d+) keys (\d+)/1000"
+COURSE = (r"course (\d+) moves (\d+) of (\d+) sub-plans (\d+) of (\d+) open (\w+) "
+          r"loaded (\d+) of (\d+) keys share (\d+)/1000")
 
 
 def span(lo, hi):
@@ -35,19 +36,16 @@ def move(lo, hi, source, dest, sub, how=None, loaded=None, *missing):
 
 
 def status(lines):
-    number, moves, subs, last, loaded, keys, thousandths = matches(COURSE, lines)[0]
+    number, over, moves, ended, subs, last, loaded, keys, share = matches(COURSE, lines)[0]
     opened = -1 if last == "none" else int(last)
     rows = matches(r"sub-plan (\d+) receivers (\d+) of (\d+) done", lines)
     shown = [move(*it) for it in matches(MOVE, lines)]
-    # A move that is not shown is complete.
-    shares = [1000] * (int(moves) - len(shown)) + [it["loaded"] * 1000 // it["keys"] for it in shown]
     return {
         "course": int(number), "move_count": int(moves), "subplan_count": int(subs),
         "open": None if last == "none" else opened, "loaded": int(loaded), "keys": int(keys),
-        "thousandths": int(thousandths), "moves": shown,
-        "complete": min(shares, default=1000) == 1000, "moves_complete": shares.count(1000),
-        "share": sum(shares) // len(shares) if shares else 1000,
-        "subplans_complete": sum(done == due for _, done, due in rows),
+        "thousandths": int(loaded) * 1000 // int(keys) if int(keys) else 1000, "moves": shown,
+        "complete": over == moves, "moves_complete": int(over),
+        "share": int(share), "subplans_complete": int(ended),
         "subplans": [{"sub": int(sub), "opened": int(sub) <= opened, "receivers": int(due), "done": int(done)}
                      for sub, done, due in rows]
     }

@@ -76,6 +76,13 @@ fn status(words: &[String], only_waiting: bool) -> Result<Vec<u8>, Stop> {
     shown.map(|()| out).map_err(|_| Stop("squall: write failed\n".into(), 3))
 }
 
+/// The mean of the shares of the moves, in thousandths.
+fn share(moves: &[Move], far: &[(u64, Option<Span>)]) -> u128 {
+    let one = |span: Span, count: u64| u128::from(count) * 1000 / u128::from(span.1 - span.0);
+    let sum: u128 = moves.iter().zip(far).map(|(it, (count, _))| one(it.span, *count)).sum();
+    if moves.is_empty() { 1000 } else { sum / moves.len() as u128 }
+}
+
 fn write_status(
     out: &mut Vec<u8>,
     board: &Board,
@@ -87,18 +94,23 @@ fn write_status(
 ) -> io::Result<()> {
     let total: u64 = moves.iter().map(|it| it.span.1 - it.span.0).sum();
     let came: u64 = far.iter().map(|it| it.0).sum();
-    let share = if total == 0 { 1000 } else { u128::from(came) * 1000 / u128::from(total) };
-    write!(out, "course {number} moves {} sub-plans {count} open ", moves.len())?;
+    let over = far.iter().filter(|it| it.1.is_none()).count();
+    let receivers: BTreeSet<_> = moves.iter().map(|it| (it.sub, it.to)).collect();
+    let is_done = |sub: u32, part: u16| board.cells.get(&(number, sub, part)).is_some_and(|it| it.done);
+    let subplans: Vec<_> = (0..count)
+        .map(|sub| {
+            let due = receivers.range((sub, 0)..=(sub, u16::MAX));
+            due.fold((0, 0), |(all, done), it| (all + 1, done + usize::from(is_done(sub, it.1))))
+        })
+        .collect();
+    let ended = subplans.iter().filter(|(all, done)| all == done).count();
+    write!(out, "course {number} moves {over} of {} sub-plans {ended} of {count} open ", moves.len())?;
     match board.opened.get(&number).copied().unwrap_or(0).min(count) {
         0 => write!(out, "none")?,
         opened => write!(out, "{}", opened - 1)?,
     }
-    writeln!(out, " loaded {came} of {total} keys {share}/1000")?;
-    let receivers: BTreeSet<_> = moves.iter().map(|it| (it.sub, it.to)).collect();
-    for sub in 0..count {
-        let due = receivers.range((sub, 0)..=(sub, u16::MAX));
-        let is_done = |part: u16| board.cells.get(&(number, sub, part)).is_some_and(|it| it.done);
-        let (all, done) = due.fold((0, 0), |(all, done), it| (all + 1, done + usize::from(is_done(it.1))));
+    writeln!(out, " loaded {came} of {total} keys share {}/1000", share(moves, far))?;
+    for (sub, (all, done)) in subplans.iter().enumerate() {
         writeln!(out, "sub-plan {sub} receivers {done} of {all} done")?;
     }
     for (it, (count, missing)) in moves.iter().zip(far) {

@@ -179,7 +179,7 @@ class Router(Routes, Hears):
         """How far its course has come, in the lines of the command `squall status`.
 
         >>> print(Router(1, new, new).status_text(), end="")
-        course 1 moves 0 sub-plans 0 open none loaded 0 of 0 keys 1000/1000
+        course 1 moves 0 of 0 sub-plans 0 of 0 open none loaded 0 of 0 keys share 1000/1000
 
         Other threads run meanwhile. Raises `NoMemory` and `ClosedError`.
         """

@@ -13,7 +13,7 @@ from .worked import FIVE, LOAD_FRAME, OLD, fresh, key, moved, wide_plan
 
 #: Of a router that knows half of one move and two thirds of the other.
 LINES = """\
-course 1 moves 2 sub-plans 1 open 0 loaded 10737418240 of 17179869184 keys 625/1000
+course 1 moves 0 of 2 sub-plans 0 of 1 open 0 loaded 10737418240 of 17179869184 keys share 583/1000
 sub-plan 0 receivers 0 of 2 done
 move [2:0,3:0) 1 to 3 sub 0 loaded 2147483648 of 4294967296 missing [2:2147483648,3:0)
 move [6:0,9:0) 3 to 4 sub 0 loaded 8589934592 of 12884901888 missing [7:0,8:0)
@@ -59,7 +59,7 @@ class OfItself(unittest.TestCase):
         router.loaded(1, 0, 4, key(8), key(9))
         router.opened(1, 0)
         self.assertEqual(router.status_text(), LINES)
-        self.assertIn(", loaded 10737418240 of 17179869184 keys, 625/1000", router.picture())
+        self.assertIn(", loaded 10737418240 of 17179869184 keys, share 583/1000", router.picture())
 
     def test_a_long_text(self) -> None:
         router = Router(1, striped(300, 0), striped(300, 1))

@@ -12,8 +12,8 @@ pub use Rattle.squall_course.specs.Subplans
 pub use Rattle.squall_board.specs.Boards
 pub use Rattle.squall_board.specs.Listed
 pub use Rattle.squall_status.specs.Coming
+pub use Rattle.squall_status.specs.Shares
 pub use Rattle.squall_status.specs.Summary
 pub use Rattle.squall_status.specs.Texts
-pub mod Shares
 pub mod Values
 pub mod Tokens

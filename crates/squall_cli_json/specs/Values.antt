@@ -24,7 +24,7 @@ use Rattle.squall_status.specs.declared.subplan.SubplanStatus.{SubplanStatus}
 use Rattle.squall_status.specs.declared.text.Shown.{Shown}
 use Rattle.squall_status.specs.Texts.{is_shown}
 use Rattle.squall_status.specs.Summary.{StatusValue, move_keys, move_loaded, thousandths}
-use Rattle.squall_cli_json.specs.Shares.{is_over, are_over, is_ended, course_share}
+use Rattle.squall_status.specs.Shares.{is_over, are_over, is_ended, course_share}
 
 -- ---- values
 

@@ -8,7 +8,6 @@ mod cell;
 mod course;
 mod plan;
 mod refusal;
-mod share;
 mod status;
 mod write;
 
@@ -16,5 +15,4 @@ pub use board::board_json;
 pub use course::course_json;
 pub use plan::{legs_json, plan_json};
 pub use refusal::refusal_json;
-pub use share::{complete_moves, course_share, ended_subplans};
 pub use status::status_json;

@@ -7,13 +7,15 @@ ghost use Rattle.squall_cli_json.specs.Tokens.{tokens_of, tokens_of_each};
 ghost use Rattle.squall_cli_json.specs.Values.{json_line, json_of_list, json_of_state, json_of_missing, json_of_move_status, shown_move};
 ghost use Rattle.squall_cli_json.specs.Values.{json_of_subplan, json_of_open, json_of_status};
 
-use crate::share::{complete_moves, course_share, ended_subplans};
 use crate::write::{
     write_bound_member, write_count_member, write_flag_member, write_number_member,
     write_part_member, write_span, write_text_member, written_line,
 };
 use json::Writer;
-use squall_status::{CourseStatus, MoveStatus, Progress, Shown, SubplanStatus};
+use squall_status::{
+    CourseStatus, MoveStatus, Progress, Shown, SubplanStatus, complete_moves, course_share,
+    ended_subplans,
+};
 use std::alloc::{AllocError, Global};
 
 /// How far the keys of a move have come, in words.

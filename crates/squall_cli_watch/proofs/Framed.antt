@@ -11,7 +11,7 @@ use Rattle.squall_wire.specs.Heard.{heard_of}
 use Rattle.squall_wire.specs.BoardOf.{board_of_lists}
 use Rattle.squall_cli_command.specs.declared.stream.WatchAsk.{WatchAsk}
 use Rattle.squall_cli_lines.specs.declared.RunFault.{RunFault}
-use Rattle.squall_cli_json.specs.Shares.{are_over}
+use Rattle.squall_status.specs.Shares.{are_over}
 use Rattle.squall_cli_boards.specs.Files.{fault_after}
 use Rattle.squall_cli_watch.specs.declared.ending.WatchEnd.{WatchEnd}
 use Rattle.squall_cli_watch.specs.declared.ending.WatchEnd.TheVariants.{Fine, Refused, Complete}

@@ -6,7 +6,7 @@ use Rattle.squall_course.specs.Change.{Change}
 use Rattle.squall_board.specs.Boards.{BoardValue, board_join, says}
 use Rattle.squall_board.specs.CourseRoute.{course_of_board}
 use Rattle.squall_status.specs.Summary.{StatusValue, IsStatusOf}
-use Rattle.squall_cli_json.specs.Shares.{is_over, is_ended, course_share}
+use Rattle.squall_status.specs.Shares.{is_over, is_ended, course_share}
 use Rattle.squall_wire.specs.Messages.{Body, lists, rows}
 use Rattle.squall_wire.specs.BoardOf.{board_of_lists}
 use Rattle.squall_wire.specs.Heard.{heard_of}

@@ -11,7 +11,7 @@ pub use Rattle.squall_cli_lines.specs.Lines
 pub use Rattle.squall_cli_lines.specs.Script
 pub use Rattle.squall_cli_lines.specs.Heeding
 pub use Rattle.squall_cli_json.specs.Values
-pub use Rattle.squall_cli_json.specs.Shares
+pub use Rattle.squall_status.specs.Shares
 pub use Rattle.squall_cli_boards.specs.Files
 pub use Rattle.squall_cli_boards.specs.Courses
 pub use Rattle.squall_cli_boards.specs.Known

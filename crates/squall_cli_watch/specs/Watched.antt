@@ -9,7 +9,7 @@ use Rattle.squall_cli_command.specs.declared.form.Form.{Form}
 use Rattle.squall_cli_command.specs.declared.form.Form.TheVariants.{Lines, Json}
 use Rattle.squall_cli_command.specs.declared.stream.WatchAsk.{WatchAsk}
 use Rattle.squall_cli_json.specs.Values.{json_line, json_of_refusal}
-use Rattle.squall_cli_json.specs.Shares.{are_over}
+use Rattle.squall_status.specs.Shares.{are_over}
 use Rattle.squall_status.specs.Summary.{StatusValue, IsStatusOf}
 use Rattle.squall_wire.specs.declared.fault.WireFault.{WireFault}
 use Rattle.squall_wire.specs.declared.fault.WireFault.TheVariants.{Kind}

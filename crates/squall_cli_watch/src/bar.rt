@@ -10,9 +10,8 @@ ghost use Rattle.squall_cli_watch.specs.Drawing.{IsToDraw, Replaces, IsStarted};
 use crate::status::newest_status;
 use crate::watcher::Watcher;
 use squall_cli_device::{DeviceFault, Sink};
-use squall_cli_json::{complete_moves, course_share, ended_subplans};
 use squall_cli_lines::send;
-use squall_status::CourseStatus;
+use squall_status::{CourseStatus, complete_moves, course_share, ended_subplans};
 use std::alloc::{AllocError, Global};
 
 mod line;

@@ -1,16 +1,15 @@
 //! The status of the newest course.
 
 ghost use Rattle.std.specs.Prelude.{◌≡◌, IfOk};
-ghost use Rattle.squall_cli_json.specs.Shares.{are_over};
+ghost use Rattle.squall_status.specs.Shares.{are_over};
 ghost use Rattle.squall_cli_watch.specs.Watched.{IsNewestStatus};
 ghost use Rattle.squall_cli_watch.specs.Taken.{next_with};
 
 use crate::ending::{Next, WatchEnd};
 use squall_board::Board;
 use squall_cli_command::WatchAsk;
-use squall_cli_json::complete_moves;
 use squall_course::Course;
-use squall_status::CourseStatus;
+use squall_status::{CourseStatus, complete_moves};
 use std::alloc::{AllocError, Global};
 
 /// How far the newest course has come of which the board tells, or else the first.

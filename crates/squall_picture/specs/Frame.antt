@@ -1,9 +1,10 @@
 -- What a picture has around plans and moves: its head, its colours and its legend, in SVG (this project's picture).
 use Rattle.std.specs.Prelude.{ℕ, ◌+◌, ◌*◌, ◌==◌, ◌||◌, Bool, length, List, ◌++◌, [], codes, if◌then◌else◌}
-use Rattle.std.specs.List.{flat_map, list_any, range_with_len}
+use Rattle.std.specs.List.{count_by, flat_map, list_any, range_with_len}
 use Rattle.std.specs.Fmt.{decimal}
 use Rattle.squall_plan.specs.declared.range.PlanRange.{PlanRange}
-use Rattle.squall_status.specs.Summary.{StatusValue, thousandths}
+use Rattle.squall_status.specs.Shares.{is_over, is_ended, course_share}
+use Rattle.squall_status.specs.Summary.{StatusValue}
 use Rattle.squall_status.specs.Texts.{open_text}
 use Rattle.squall_picture.specs.Bars.{colour_of}
 
@@ -22,15 +23,19 @@ role_text = codes " role='img' aria-labelledby='squall-title squall-desc' font-f
 abbrev pub svg_text : ℕ → List ℕ
 svg_text width = size_text width ++ role_text
 
--- how many moves and sub-plans a course has, and which of these is open
-abbrev pub counts_text : StatusValue → List ℕ
-counts_text s =
-    codes "moves " ++ (decimal (length s.moves) ++ (codes ", sub-plans " ++ (decimal (length s.subplans) ++ (codes ", open " ++ open_text s.open_sub))))
+-- how many moves of a course are complete, and how many of its sub-plans have ended
+abbrev pub ended_text : ℕ → ℕ → ℕ → ℕ → List ℕ
+ended_text over moves ended subplans =
+    codes "moves " ++ (decimal over ++ (codes " of " ++ (decimal moves ++ (codes ", sub-plans " ++ (decimal ended ++ (codes " of " ++ (decimal subplans ++ codes ", open ")))))))
 
--- how many of its keys are loaded, and that share in thousandths
-abbrev pub share_text : ℕ → ℕ → List ℕ
-share_text loaded keys =
-    codes ", loaded " ++ (decimal loaded ++ (codes " of " ++ (decimal keys ++ (codes " keys, " ++ (decimal (thousandths loaded keys) ++ codes "/1000")))))
+-- the same, and which sub-plan is open
+abbrev pub counts_text : StatusValue → List ℕ
+counts_text s = ended_text (count_by is_over s.moves) (length s.moves) (count_by is_ended s.subplans) (length s.subplans) ++ open_text s.open_sub
+
+-- how many of its keys are loaded, and the mean of the shares of its moves in thousandths
+abbrev pub share_text : ℕ → ℕ → ℕ → List ℕ
+share_text loaded keys share =
+    codes ", loaded " ++ (decimal loaded ++ (codes " of " ++ (decimal keys ++ (codes " keys, share " ++ (decimal share ++ codes "/1000")))))
 
 -- the number of the course
 abbrev pub number_text : ℕ → List ℕ
@@ -38,7 +43,7 @@ number_text number = codes "course " ++ (decimal number ++ codes ": ")
 
 -- the course in a line
 abbrev pub summary_text : StatusValue → List ℕ
-summary_text s = number_text s.number ++ (counts_text s ++ share_text s.loaded s.keys)
+summary_text s = number_text s.number ++ (counts_text s ++ share_text s.loaded s.keys (course_share s.moves))
 
 -- the name of the picture
 abbrev pub title_text : ℕ → List ℕ

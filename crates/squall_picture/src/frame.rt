@@ -1,13 +1,16 @@
 //! The head of a picture: its size, its names, how classes look, and the course in a line.
 
-ghost use Rattle.std.specs.Prelude.{◌≡◌, ◌++◌, OnOk, codes, string_bytes};
+ghost use Rattle.std.specs.Prelude.{◌≡◌, ◌++◌, OnOk, codes, length, string_bytes};
+ghost use Rattle.std.specs.List.{count_by};
+ghost use Rattle.squall_status.specs.Shares.{is_over, is_ended, course_share};
 ghost use Rattle.squall_status.specs.Texts.{open_text};
-ghost use Rattle.squall_picture.specs.Frame.{size_text, role_text, svg_text, counts_text, share_text, number_text, summary_text, title_text, names_text};
+ghost use Rattle.squall_picture.specs.Frame.{size_text, role_text, svg_text, title_text, names_text};
+ghost use Rattle.squall_picture.specs.Frame.{ended_text, counts_text, share_text, number_text, summary_text};
 ghost use Rattle.squall_picture.specs.Frame.{first_colours, second_colours, third_colours, last_colours, palette_text};
 ghost use Rattle.squall_picture.specs.Frame.{bar_look, band_look, tick_look, lines_text, sheet_text};
 ghost use Rattle.squall_picture.specs.Frame.{style_text, ground_text, head_text};
 
-use squall_status::CourseStatus;
+use squall_status::{CourseStatus, complete_moves, course_share, ended_subplans};
 use std::alloc::AllocError;
 
 /// Adds how large the picture is, in its outermost tag.
@@ -47,24 +50,39 @@ fn add_open(open_sub: Option<u32>, out: &mut String) -> Result<(), AllocError>
     }
 }
 
-/// Adds how many moves and sub-plans a course has, and which of these is open.
+/// Adds how many moves of a course are complete, and how many of its sub-plans have ended.
+fn add_ended(status: &CourseStatus, out: &mut String) -> Result<(), AllocError>
+    ensures { OnOk result (string_bytes out.new ≡ string_bytes out.old
+        ++ ended_text (count_by is_over status.now.moves) (length status.now.moves)
+        (count_by is_ended status.now.subplans) (length status.now.subplans)) }
+{
+    let over = complete_moves(status.moves());
+    let moves = status.moves().len();
+    let ended = ended_subplans(status.subplans());
+    let subplans = status.subplans().len();
+    write!(
+        out,
+        "moves {over} of {moves}, sub-plans {ended} of {subplans}, open "
+    )
+}
+
+/// Adds the same, and which sub-plan is open.
 fn add_counts(status: &CourseStatus, out: &mut String) -> Result<(), AllocError>
     ensures { OnOk result (string_bytes out.new ≡ string_bytes out.old ++ counts_text status.now) }
 {
-    let moves = status.moves().len();
-    let subplans = status.subplans().len();
-    write!(out, "moves {moves}, sub-plans {subplans}, open ")?;
+    add_ended(status, out)?;
     add_open(status.open_subplan(), out)
 }
 
-/// Adds how many keys of the course are loaded, and that share in thousandths.
+/// Adds how many keys of the course are loaded, and its share.
 fn add_share(status: &CourseStatus, out: &mut String) -> Result<(), AllocError>
-    ensures { OnOk result (string_bytes out.new ≡ string_bytes out.old ++ share_text status.now.loaded status.now.keys) }
+    ensures { OnOk result (string_bytes out.new ≡ string_bytes out.old
+        ++ share_text status.now.loaded status.now.keys (course_share status.now.moves)) }
 {
     let loaded = status.loaded();
     let keys = status.keys();
-    let share = status.thousandths();
-    write!(out, ", loaded {loaded} of {keys} keys, {share}/1000")
+    let share = course_share(status.moves());
+    write!(out, ", loaded {loaded} of {keys} keys, share {share}/1000")
 }
 
 /// Adds the number of the course.

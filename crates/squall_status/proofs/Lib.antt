@@ -3,3 +3,4 @@ pub mod Counts
 pub mod Sharing
 pub mod Progressed
 pub mod Moved
+pub mod AfterNews

@@ -42,7 +42,7 @@ moved_more [] s = refl
 moved_more (t ∷ ss) s = ap (λ ms. t.moving ∷ ms) (moved_more ss s)
 
 -- what holds of each move holds of the move of each status
-all_moving : (P : Move → Type 0) (ss : List MoveStatus) → AllByRecursion P (map (λ s. s.moving) ss) → AllByRecursion (λ s. P s.moving) ss
+pub all_moving : (P : Move → Type 0) (ss : List MoveStatus) → AllByRecursion P (map (λ s. s.moving) ss) → AllByRecursion (λ s. P s.moving) ss
 all_moving P [] all = tt
 all_moving P (s ∷ ss) all = (all.0, all_moving P ss all.1)
 
@@ -58,6 +58,10 @@ come_in_cell c says m k is has =
 -- the progress by the move's cell is that in the course
 pub progress_by_cell : (c : Change) (says : Fact → Bool) (m : Move) (p : Progress) → IsMove c.old c.new m → IsProgress m.span (has_come_to says (cell_to c.number m)) p → IsProgress m.span (has_come c says) p
 progress_by_cell c says m p is by = same_progress m.span (has_come_to says (cell_to c.number m)) (has_come c says) p (λ k has. come_in_cell c says m k is has) by
+
+-- and the other way round
+pub progress_at_cell : (c : Change) (says : Fact → Bool) (m : Move) (p : Progress) → IsMove c.old c.new m → IsProgress m.span (has_come c says) p → IsProgress m.span (has_come_to says (cell_to c.number m)) p
+progress_at_cell c says m p is by = same_progress m.span (has_come c says) (has_come_to says (cell_to c.number m)) p (λ k has. sym (come_in_cell c says m k is has)) by
 
 -- ---- sums over moves
 
@@ -119,7 +123,7 @@ loaded_counts c says (s ∷ ss) full each = (progress_counts s.moving.span (has_
 -- ---- the statuses of a course's moves
 
 module _ (c : Change) (says : Fact → Bool) (ss : List MoveStatus) (plans : ArePlans c.old c.new) (are : AreMoveStatuses c says ss) where
-  meaning : AreMoves c.old c.new (moved ss)
+  pub meaning : AreMoves c.old c.new (moved ss)
   meaning = subst (AreMoves c.old c.new) (sym are.moves) (are_moves c.old c.new plans.old_canonical plans.new_canonical)
 
   all_full : AllByRecursion IsFull (moved ss)

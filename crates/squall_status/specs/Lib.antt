@@ -13,6 +13,8 @@ pub use Rattle.squall_board.specs.Listed
 pub use Rattle.squall_board.specs.Route
 pub use Rattle.squall_board.specs.MovesRoute
 pub mod Coming
+pub mod News
+pub mod Shares
 pub mod Steps
 pub mod Summary
 pub mod Tallies

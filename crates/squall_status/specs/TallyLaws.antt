@@ -1,5 +1,5 @@
 -- A join of boards tells at most as much as both, in numbers.
-use Rattle.std.specs.Prelude.{◌≡◌, ℕ, ◌+◌, ◌<◌, ◌≤◌, max, nat_lt, true, false, ◌||◌, map, length, List, [], ◌∷◌, ◌++◌, refl, if◌then◌else◌}
+use Rattle.std.specs.Prelude.{◌≡◌, ℕ, ◌+◌, ◌≤◌, max, nat_lt, true, false, length, List, [], ◌∷◌, ◌++◌, refl, if◌then◌else◌}
 use Rattle.std.proofs.Common.{◌∙◌, arith, length-append}
 use Rattle.std.proofs.lemmas.List.Sums.{sum_by-cons, sum_by-append}
 use Rattle.std.specs.declared.cmp.Ordering.TheVariants.{Less, Equal, Greater}

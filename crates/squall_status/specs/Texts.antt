@@ -1,6 +1,6 @@
 -- How far a reconfiguration has come, as lines (this project's text form).
 use Rattle.std.specs.Prelude.{ℕ, List, ◌++◌, [], length, Bool, true, not, Option, None, Some, codes, if◌then◌else◌}
-use Rattle.std.specs.List.{flat_map}
+use Rattle.std.specs.List.{count_by, flat_map}
 use Rattle.std.specs.Fmt.{decimal}
 use Rattle.squall_span.specs.Spans.{text_of_span}
 use Rattle.squall_course.specs.declared.moving.Move.{Move}
@@ -11,26 +11,29 @@ use Rattle.squall_status.specs.declared.subplan.SubplanStatus.{SubplanStatus}
 use Rattle.squall_status.specs.declared.text.Shown.{Shown}
 use Rattle.squall_status.specs.declared.text.Shown.TheVariants.{EachMove, Waiting}
 use Rattle.squall_status.specs.Coming.{is_complete}
-use Rattle.squall_status.specs.Summary.{StatusValue, move_keys, thousandths}
+use Rattle.squall_status.specs.Shares.{is_over, is_ended, course_share}
+use Rattle.squall_status.specs.Summary.{StatusValue, move_keys}
 
 -- which sub-plan is open
 abbrev pub open_text : Option ℕ → List ℕ
 open_text None = codes "none"
 open_text (Some sub) = decimal sub
 
--- how the line of a course begins: its number, and how many moves and sub-plans it has
-abbrev pub course_head : ℕ → ℕ → ℕ → List ℕ
-course_head number moves subplans =
-    codes "course " ++ (decimal number ++ (codes " moves " ++ (decimal moves ++ (codes " sub-plans " ++ (decimal subplans ++ codes " open ")))))
+-- how the line of a course begins: its number, and how many of its moves are complete and of its sub-plans have ended
+abbrev pub course_head : ℕ → ℕ → ℕ → ℕ → ℕ → List ℕ
+course_head number over moves ended subplans =
+    codes "course " ++ (decimal number ++ (codes " moves " ++ (decimal over ++ (codes " of " ++ (decimal moves
+    ++ (codes " sub-plans " ++ (decimal ended ++ (codes " of " ++ (decimal subplans ++ codes " open ")))))))))
 
--- how it ends: how many of its keys are loaded, and that share in thousandths
-abbrev pub course_tail : ℕ → ℕ → List ℕ
-course_tail loaded keys =
-    codes " loaded " ++ (decimal loaded ++ (codes " of " ++ (decimal keys ++ (codes " keys " ++ (decimal (thousandths loaded keys) ++ codes "/1000\n")))))
+-- how it ends: how many of its keys are loaded, and the mean of the shares of its moves in thousandths
+abbrev pub course_tail : ℕ → ℕ → ℕ → List ℕ
+course_tail loaded keys share =
+    codes " loaded " ++ (decimal loaded ++ (codes " of " ++ (decimal keys ++ (codes " keys share " ++ (decimal share ++ codes "/1000\n")))))
 
 -- the line of the course, with the sub-plan that is open
 abbrev pub course_line : StatusValue → List ℕ
-course_line s = course_head s.number (length s.moves) (length s.subplans) ++ (open_text s.open_sub ++ course_tail s.loaded s.keys)
+course_line s = course_head s.number (count_by is_over s.moves) (length s.moves) (count_by is_ended s.subplans) (length s.subplans)
+    ++ (open_text s.open_sub ++ course_tail s.loaded s.keys (course_share s.moves))
 
 -- the line of a sub-plan: how many of the partitions that receive keys in it are done
 abbrev pub subplan_line : SubplanStatus → List ℕ

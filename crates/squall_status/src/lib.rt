@@ -44,6 +44,8 @@ mod clash;
 pub mod laws;
 mod moving;
 mod progress;
+mod renewed;
+mod share;
 mod status;
 mod subplan;
 mod tally;
@@ -51,7 +53,8 @@ mod text;
 
 pub use clash::clashes_above;
 pub use progress::{MoveStatus, Progress};
+pub use share::{complete_moves, course_share, ended_subplans};
 pub use status::CourseStatus;
 pub use subplan::SubplanStatus;
 pub use tally::Tally;
-pub use text::{Shown, add_status};
+pub use text::{Shown, add_course_line, add_move_line, add_status, add_subplan_line};

@@ -31,7 +31,7 @@ fn progress_in(span: Span, cell: Option<&CellParts>) -> Progress
 }
 
 /// How far a move of the reconfiguration of the number has come, from its cell.
-fn progress_of(board: &Board, number: u32, moving: &Move) -> Progress
+pub(crate) fn progress_of(board: &Board, number: u32, moving: &Move) -> Progress
     requires number { 1 ≤ number }
     requires sub { moving.now.sub < part_limit }
     ensures { IsProgress moving.now.span (has_come_to (says board.now) (cell_to number moving.now)) result }

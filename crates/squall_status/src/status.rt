@@ -3,11 +3,13 @@
 ghost use Rattle.std.specs.Prelude.{◌≡◌, ◌↔◌, ℕ, ◌≤◌, IfOk};
 ghost use Rattle.squall_key.specs.Keys.{top};
 ghost use Rattle.squall_board.specs.Boards.{says};
+ghost use Rattle.squall_status.specs.News.{IsStatusBefore};
 ghost use Rattle.squall_status.specs.Steps.{open_of};
 ghost use Rattle.squall_status.specs.Summary.{thousandths, IsStatusOf};
 
 use crate::moving::{move_statuses, sum_keys, sum_loaded};
 use crate::progress::MoveStatus;
+use crate::renewed::{renewed_moves, renewed_subplans};
 use crate::subplan::{SubplanStatus, subplan_statuses};
 use squall_board::Board;
 use squall_course::Course;
@@ -73,6 +75,33 @@ impl CourseStatus {
             subplans,
             open_sub,
             keys,
+            loaded,
+        })
+    }
+
+    /// How far the course has come after news, as `board` says: the board of this status with the news
+    /// joined in. Only moves and sub-plans are looked up of which there are news. An error means that
+    /// an allocation failed.
+    pub fn renewed(
+        &self,
+        alloc: Global,
+        course: &Course,
+        news: &Board,
+        board: &Board,
+    ) -> Result<CourseStatus, AllocError>
+        requires before { IsStatusBefore course.now (says news.now) (says board.now) self.now }
+        ensures { IfOk result (λ s. IsStatusOf course.now (says board.now) s) }
+    {
+        let moves = renewed_moves(alloc, course, &self.moves, news, board)?;
+        let subplans = renewed_subplans(alloc, course, &self.subplans, news, board)?;
+        let open_sub = open_of(board.opened(self.number), course.subplans());
+        let loaded = sum_loaded(&moves);
+        Ok(CourseStatus {
+            number: self.number,
+            moves,
+            subplans,
+            open_sub,
+            keys: self.keys,
             loaded,
         })
     }

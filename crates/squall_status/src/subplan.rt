@@ -37,7 +37,7 @@ fn count_done(board: &Board, number: u32, sub: u32, parts: &[PartId]) -> usize
 }
 
 /// The status of a sub-plan of the course.
-fn subplan_status(
+pub(crate) fn subplan_status(
     alloc: Global,
     course: &Course,
     board: &Board,

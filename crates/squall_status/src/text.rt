@@ -1,10 +1,13 @@
 //! How far a course has come, as lines.
 
 ghost use Rattle.std.specs.Prelude.{◌≡◌, ◌++◌, OnOk, length, string_bytes};
+ghost use Rattle.std.specs.List.{count_by};
+ghost use Rattle.squall_status.specs.Shares.{is_over, is_ended, course_share};
 ghost use Rattle.squall_status.specs.Texts.{open_text, course_head, course_tail, course_line, subplan_line, subplan_lines};
 ghost use Rattle.squall_status.specs.Texts.{progress_text, move_text, move_line, is_shown, shown_line, move_lines, status_text};
 
 use crate::progress::{MoveStatus, Progress};
+use crate::share::{complete_moves, course_share, ended_subplans};
 use crate::status::CourseStatus;
 use crate::subplan::SubplanStatus;
 use squall_course::Move;
@@ -41,32 +44,37 @@ fn add_open(open_sub: Option<u32>, out: &mut String) -> Result<(), AllocError>
     }
 }
 
-/// Adds how the line of the course begins: its number, and how many moves and sub-plans it has.
+/// Adds how the line of the course begins: its number, and how many of its moves are complete and of
+/// its sub-plans have ended.
 fn add_head(status: &CourseStatus, out: &mut String) -> Result<(), AllocError>
     ensures { OnOk result (string_bytes out.new ≡ string_bytes out.old
-        ++ course_head status.now.number (length status.now.moves) (length status.now.subplans)) }
+        ++ course_head status.now.number (count_by is_over status.now.moves) (length status.now.moves)
+        (count_by is_ended status.now.subplans) (length status.now.subplans)) }
 {
     let number = status.number();
+    let over = complete_moves(status.moves());
     let moves = status.moves().len();
+    let ended = ended_subplans(status.subplans());
     let subplans = status.subplans().len();
     write!(
         out,
-        "course {number} moves {moves} sub-plans {subplans} open "
+        "course {number} moves {over} of {moves} sub-plans {ended} of {subplans} open "
     )
 }
 
-/// Adds how that line ends: how many of its keys are loaded, and that share in thousandths.
+/// Adds how that line ends: how many of its keys are loaded, and the share of the course.
 fn add_tail(status: &CourseStatus, out: &mut String) -> Result<(), AllocError>
-    ensures { OnOk result (string_bytes out.new ≡ string_bytes out.old ++ course_tail status.now.loaded status.now.keys) }
+    ensures { OnOk result (string_bytes out.new ≡ string_bytes out.old
+        ++ course_tail status.now.loaded status.now.keys (course_share status.now.moves)) }
 {
     let loaded = status.loaded();
     let keys = status.keys();
-    let share = status.thousandths();
-    write!(out, " loaded {loaded} of {keys} keys {share}/1000\n")
+    let share = course_share(status.moves());
+    write!(out, " loaded {loaded} of {keys} keys share {share}/1000\n")
 }
 
-/// Adds the line of the course.
-fn add_course(status: &CourseStatus, out: &mut String) -> Result<(), AllocError>
+/// Adds the line of the course, as [`add_status`] does. An error means that an allocation failed.
+pub fn add_course_line(status: &CourseStatus, out: &mut String) -> Result<(), AllocError>
     ensures { OnOk result (string_bytes out.new ≡ string_bytes out.old ++ course_line status.now) }
 {
     add_head(status, out)?;
@@ -74,15 +82,22 @@ fn add_course(status: &CourseStatus, out: &mut String) -> Result<(), AllocError>
     add_tail(status, out)
 }
 
+/// Adds the line of a sub-plan, as [`add_status`] does. An error means that an allocation failed.
+pub fn add_subplan_line(status: &SubplanStatus, out: &mut String) -> Result<(), AllocError>
+    ensures { OnOk result (string_bytes out.new ≡ string_bytes out.old ++ subplan_line status.now) }
+{
+    let sub = status.sub;
+    let receivers = status.receivers;
+    let done = status.done;
+    write!(out, "sub-plan {sub} receivers {done} of {receivers} done\n")
+}
+
 /// Adds the lines of the sub-plans.
 fn add_subplans(subplans: &[SubplanStatus], out: &mut String) -> Result<(), AllocError>
     ensures { OnOk result (string_bytes out.new ≡ string_bytes out.old ++ subplan_lines subplans.now) }
 {
     for status in subplans {
-        let sub = status.sub;
-        let receivers = status.receivers;
-        let done = status.done;
-        write!(out, "sub-plan {sub} receivers {done} of {receivers} done\n")?;
+        add_subplan_line(status, out)?;
     }
     Ok(())
 }
@@ -111,8 +126,8 @@ fn add_moving(moving: &Move, out: &mut String) -> Result<(), AllocError>
     write!(out, "move {span} {source} to {dest} sub {sub}")
 }
 
-/// Adds the line of a move.
-fn add_move(status: &MoveStatus, out: &mut String) -> Result<(), AllocError>
+/// Adds the line of a move, as [`add_status`] does. An error means that an allocation failed.
+pub fn add_move_line(status: &MoveStatus, out: &mut String) -> Result<(), AllocError>
     ensures { OnOk result (string_bytes out.new ≡ string_bytes out.old ++ move_line status.now) }
 {
     add_moving(&status.moving, out)?;
@@ -126,7 +141,7 @@ fn add_shown(shown: Shown, status: &MoveStatus, out: &mut String) -> Result<(), 
     ensures { OnOk result (string_bytes out.new ≡ string_bytes out.old ++ shown_line shown status.now) }
 {
     if shown.shows(status) {
-        add_move(status, out)?;
+        add_move_line(status, out)?;
     }
     Ok(())
 }
@@ -144,7 +159,8 @@ fn add_moves(shown: Shown, moves: &[MoveStatus], out: &mut String) -> Result<(),
 /// Adds how far the course has come. There is a line for the course, one for each of its sub-plans
 /// by rising number, and one for each move that is shown, by rising key:
 ///
-/// `course N moves M sub-plans S open K loaded L of T keys P/1000`, with `open none` if none is;
+/// `course N moves C of M sub-plans E of S open K loaded L of T keys share P/1000`, with `open none`
+/// if none is. C moves are complete, E sub-plans have ended, and P is the share by [`course_share`];
 /// `sub-plan K receivers D of R done`;
 /// `move [LO,HI) P to Q sub K`, and then `complete`, `not started` or
 /// `loaded L of T missing [LO,HI)`.
@@ -153,7 +169,7 @@ fn add_moves(shown: Shown, moves: &[MoveStatus], out: &mut String) -> Result<(),
 pub fn add_status(status: &CourseStatus, shown: Shown, out: &mut String) -> Result<(), AllocError>
     ensures { OnOk result (string_bytes out.new ≡ string_bytes out.old ++ status_text shown status.now) }
 {
-    add_course(status, out)?;
+    add_course_line(status, out)?;
     add_subplans(status.subplans(), out)?;
     add_moves(shown, status.moves(), out)
 }

@@ -73,7 +73,7 @@ class MoverTest(PartitionsTest):
             while node.turn(0.2):
                 pass
             self.assertEqual(node.router.number, 3)
-            self.assertIn("moves 4 sub-plans 2", node.router.status_text())
+            self.assertIn("moves 4 of 4 sub-plans 2 of 2", node.router.status_text())
             self.assertNotIn("open none", node.router.status_text())
             self.assertEqual(node.router.view().route(Rank(10, 1)), 1)
 

@@ -1,7 +1,7 @@
 use Rattle.std.proofs.Common.{◌≡◌, ◌≤◌, ◌*◌, take}
 use Rattle.std.specs.List.{sum_by}
-use Rattle.squall_cli_json.specs.Shares.{move_share}
-use Rattle.squall_cli_json.proofs.share.sum_shares.Given as goal
+use Rattle.squall_status.specs.Shares.{move_share}
+use Rattle.squall_status.proofs.share.sum_shares.Given as goal
 
 abbrev pub invariant-loop-status : goal.invariant-loop-status
 invariant-loop-status l = record {

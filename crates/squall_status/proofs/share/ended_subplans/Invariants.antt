@@ -1,7 +1,7 @@
 use Rattle.std.proofs.Common.{◌≡◌, ◌≤◌, take}
 use Rattle.std.specs.List.{count_by}
-use Rattle.squall_cli_json.specs.Shares.{is_ended}
-use Rattle.squall_cli_json.proofs.share.ended_subplans.Given as goal
+use Rattle.squall_status.specs.Shares.{is_ended}
+use Rattle.squall_status.proofs.share.ended_subplans.Given as goal
 
 abbrev pub invariant-loop-status : goal.invariant-loop-status
 invariant-loop-status l = record {

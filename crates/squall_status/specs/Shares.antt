@@ -1,4 +1,4 @@
--- How far a course has come, counted by its moves and sub-plans (this project's command line).
+-- How far a course has come, counted by its moves and sub-plans (this project).
 use Rattle.std.specs.Prelude.{ℕ, ◌/◌, ◌==◌, min, Bool, List, length, if◌then◌else◌}
 use Rattle.std.specs.List.{count_by, sum_by}
 use Rattle.squall_status.specs.declared.progress.MoveStatus.{MoveStatus}

@@ -2,9 +2,10 @@
 
 ghost use Rattle.std.specs.Prelude.{◌≡◌, ◌≤◌, ◌*◌, length};
 ghost use Rattle.std.specs.List.{count_by, sum_by};
-ghost use Rattle.squall_cli_json.specs.Shares.{is_over, is_ended, move_share, course_share};
+ghost use Rattle.squall_status.specs.Shares.{is_over, is_ended, move_share, course_share};
 
-use squall_status::{MoveStatus, SubplanStatus};
+use crate::progress::{MoveStatus, Progress};
+use crate::subplan::SubplanStatus;
 
 /// The whole of a share, in thousandths.
 const WHOLE: u32 = 1000;
@@ -44,8 +45,14 @@ fn move_share(status: &MoveStatus) -> u32
     if keys == 0 {
         return WHOLE;
     }
-    let share = u128::from(status.loaded()) * 1000 / u128::from(keys);
-    share.min(1000) as u32
+    match status.progress {
+        Progress::NotStarted => 0,
+        Progress::Partial { loaded, .. } => {
+            let share = u128::from(loaded) * 1000 / u128::from(keys);
+            share.min(1000) as u32
+        }
+        Progress::Complete => WHOLE,
+    }
 }
 
 /// The sum of the shares of the moves.
