@@ -1,10 +1,12 @@
-//! What the frames of a file say.
+//! What one frame of a file says.
 
-ghost use Rattle.std.specs.Prelude.{◌≡◌, ◌≢◌, map, IfOk};
+ghost use Rattle.std.specs.Prelude.{◌≡◌, ◌≢◌, [], Err, IfOk, IfErr};
+ghost use Rattle.squall_board.specs.Boards.{BoardValue};
 ghost use Rattle.squall_wire.specs.Messages.{body_of};
-ghost use Rattle.squall_cli_boards.specs.Files.{bodies_in, fault_in, fault_after, digest_of_file};
+ghost use Rattle.squall_cli_boards.specs.Files.{joined_file, digest_of_file};
+ghost use Rattle.squall_cli_boards.specs.Joined.{IsFirstOf};
 
-use squall_wire::{Digest, Heard, Message, WireFault, decode, hear};
+use squall_wire::{Digest, Message, WireFault, decode};
 use std::alloc::{AllocError, Global};
 
 /// The fault of a file, unless it is that of a failed allocation.
@@ -17,30 +19,20 @@ fn file_fault(fault: WireFault) -> Result<WireFault, AllocError>
     }
 }
 
-/// The fault of what follows the frames: bytes that are too few for a frame are `Short`.
-fn fault_after(fault: Option<WireFault>, rest: &[u8]) -> Option<WireFault>
-    ensures { result ≡ fault_after fault rest.now }
-{
-    match (fault, rest) {
-        (Some(fault), _) => Some(fault),
-        (None, []) => None,
-        (None, [_, ..]) => Some(WireFault::Short),
-    }
-}
-
-/// The messages whose frames the file begins with, one after the other, and the fault of what
-/// follows them. None if nothing follows.
-#[tactic(auto, using(crate::proofs::Heard::bodies_heard, crate::proofs::Heard::fault_heard))]
-pub(crate) fn hear_file(
+/// What the first frame of a file says, and the bytes after the frame; or the fault of the file. An
+/// error means that an allocation failed.
+pub(crate) fn first_frame(
     alloc: Global,
     bytes: &[u8],
-) -> Result<(Vec<Message>, Option<WireFault>), AllocError>
-    ensures bodies { IfOk result (λ heard. map body_of heard.0.items ≡ bodies_in bytes.now) }
-    ensures fault { IfOk result (λ heard. heard.1 ≡ fault_in bytes.now) }
+) -> Result<Result<(Message, &[u8]), WireFault>, AllocError>
+    requires { bytes.now ≢ [] }
+    ensures frame { IfOk result (λ first. IfOk first (λ x. IsFirstOf bytes.now (body_of x.0) x.1.now)) }
+    ensures fault { IfOk result (λ first. IfErr first (λ fault. (board : BoardValue) → joined_file board bytes.now ≡ Err fault)) }
 {
-    let (heard, rest) = hear(alloc, bytes)?;
-    let Heard { messages, fault } = heard;
-    Ok((messages, fault_after(fault, rest)))
+    match decode(alloc, bytes) {
+        Ok((message, used)) => Ok(Ok((message, bytes.split_at(used).1))),
+        Err(fault) => Ok(Err(file_fault(fault)?)),
+    }
 }
 
 /// The digest of a file that is the frame of one, or the fault of the file; and apart from both a

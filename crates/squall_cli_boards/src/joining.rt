@@ -1,13 +1,13 @@
 //! The board of board files.
 
-ghost use Rattle.std.specs.Prelude.{◌≡◌, ◌∷◌, List, Option, Err, map, IfOk, if◌then◌else◌, string_bytes};
+ghost use Rattle.std.specs.Prelude.{◌≡◌, ◌∷◌, List, Option, Err, IfOk, if◌then◌else◌, string_bytes};
 ghost use Rattle.squall_wire.specs.declared.fault.WireFault.{WireFault as Fault};
 ghost use Rattle.squall_wire.specs.Messages.{Body, body_of};
 ghost use Rattle.squall_cli_boards.specs.Files.{JoinsTo, joined_with, joined_file, files_joined, board_of_files};
 ghost use Rattle.squall_cli_boards.specs.Joined.{IsJoined};
 
 use crate::file::NamedFile;
-use crate::hearing::hear_file;
+use crate::hearing::first_frame;
 use crate::refusals::FileRefusal;
 use squall_board::Board;
 use squall_wire::laws::lists_make_the_board;
@@ -29,23 +29,7 @@ fn merge_message(board: &mut Board, message: &Message) -> Result<bool, AllocErro
     }
 }
 
-/// Merges the boards of messages that such a fault follows. The first fault, if there is one.
-fn merge_messages(
-    board: &mut Board,
-    messages: &[Message],
-    fault: Option<WireFault>,
-) -> Result<Option<WireFault>, AllocError>
-    ensures { IfOk result (λ met. JoinsTo met board.new (joined_with board.old (map body_of messages.now) fault)) }
-{
-    for message in messages {
-        if !merge_message(board, message)? {
-            return Ok(Some(WireFault::Kind));
-        }
-    }
-    Ok(fault)
-}
-
-/// Merges the boards of a file. The first fault, if there is one.
+/// Merges the boards of a file, frame by frame. The first fault, if there is one.
 fn merge_file(
     alloc: Global,
     board: &mut Board,
@@ -53,8 +37,18 @@ fn merge_file(
 ) -> Result<Option<WireFault>, AllocError>
     ensures { IfOk result (λ met. JoinsTo met board.new (joined_file board.old bytes.now)) }
 {
-    let (messages, fault) = hear_file(alloc, bytes)?;
-    merge_messages(board, &messages, fault)
+    let mut rest = bytes;
+    while !rest.is_empty() {
+        let (message, others) = match first_frame(alloc, rest)? {
+            Ok(first) => first,
+            Err(fault) => return Ok(Some(fault)),
+        };
+        if !merge_message(board, &message)? {
+            return Ok(Some(WireFault::Kind));
+        }
+        rest = others;
+    }
+    Ok(None)
 }
 
 /// The board of the files: the join of all boards in them. Or why the first file that has a fault is
