@@ -6,10 +6,9 @@ from plain_frames import MOST, TOP, Fault, decoded, digest_frame
 from plain_json import object_of
 from plain_keys import key_of
 
-NO_REPORT = "error: the words are no report: see squall help report"
 # They write frames or a plan, so that their refusals go to standard error.
 WRITE_BYTES = ("report", "merge", "beyond", "digest", "repair", "plan")
-INPUT_TAKEN = "error: standard input is read as it comes, so that no file can be -"
+INPUT_TAKEN = "squall: standard input is read as it comes, so that no file can be -"
 
 
 class Files:
@@ -61,26 +60,44 @@ class Files:
             raise Refused(f"refused {which} {why.line}") from None
 
 
+def no_report(word, why):
+    """Words that are no report, of which this one is at fault."""
+    return Refused(f"squall: refused {word} {why}: see squall help report", 2)
+
+
 def report(words, files):
     """The frame of a report."""
-    board, kind, told = Board(), words[0], [number_of(it) for it in words[1:4]]
+    board, kind = Board(), words[0]
     forms = {"loaded": 6, "done": 4, "opened": 3, "issued": 4}
-    if len(words) != forms.get(kind) or told[0] in (None, 0):
-        raise Refused(NO_REPORT, 2)
+    if len(words) != forms.get(kind):
+        raise no_report(kind, "NoReport")
+    told = [number_of(it) for it in words[1:4]]
+    if told[0] in (None, 0):
+        raise no_report(words[1], "NoCourse")
     if kind == "issued":
         board.issue(told[0], (files.plan("old", words[2]), files.plan("new", words[3])))
-    elif None in told or max(told[1:]) > 9999:
-        raise Refused(NO_REPORT, 2)
-    elif kind == "opened":
+        return board.pieces()
+    for word, number, why in zip(words[2:4], told[1:], ("NoSubPlan", "NoPart")):
+        if number is None or number > 9999:
+            raise no_report(word, why)
+    if kind == "opened":
         board.open(told[0], told[1] + 1)
     elif kind == "done":
         board.done.add(tuple(told))
     else:
-        lo, hi = map(rank_of, words[4:])
-        if lo is None or hi is None or lo >= hi:
-            raise Refused(NO_REPORT, 2)
-        board.load(tuple(told), [(lo, hi)])
+        board.load(tuple(told), [loaded_span(*words[4:])])
     return board.pieces()
+
+
+def loaded_span(first, last):
+    """The span of a report of a load."""
+    lo, hi = rank_of(first), rank_of(last)
+    for word, rank in ((first, lo), (last, hi)):
+        if rank is None:
+            raise no_report(word, "NoBound")
+    if lo >= hi:
+        raise no_report(last, "NoSpan")
+    return lo, hi
 
 
 def routed(words, files, boards):

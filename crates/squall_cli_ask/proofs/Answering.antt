@@ -13,7 +13,7 @@ use Rattle.squall_cli_boards.specs.Files.{FileValue}
 use Rattle.squall_cli_boards.specs.Answers.{AnswerValue}
 use Rattle.squall_cli_ask.specs.Audited.{IsAnswerFor}
 use Rattle.squall_cli_ask.specs.Reads.{Bytes}
-use Rattle.squall_cli_ask.specs.Told.{fault_told, refusal_told, IsUnread, IsNoName, IsTold}
+use Rattle.squall_cli_ask.specs.Told.{TellsFault, refusal_told, IsUnread, IsNoName, IsTold}
 use Rattle.squall_cli_ask.specs.Gathered.{AreRead}
 use Rattle.squall_cli_ask.specs.Asked.{refuses_aside, is_aside, output_of, is_judged, status_of_answer, IsAnswered, TellsRefusal, comes_aside, IsAnswerTold, GivesAnswer, IsToldOf}
 use Rattle.squall_cli_ask.specs.Answered.{IsSent}
@@ -105,10 +105,11 @@ answered_not_bad asked words files status written (inr (inl h)) bad = omega (ari
 answered_not_bad asked words files status written (inr (inr h)) bad = omega (arith, h.0, bad)
 
 -- an allocation failed before there was an answer
-pub memory_told : (asked : Inquiry) (words : List (List ℕ)) (files : List FileValue) (status : ℕ) → status ≡ 4 → IsAnswerTold asked words files status (fault_told NoMemory)
-memory_told asked words files status s =
-    matched_false (comes_aside asked status) (TellsRefusal asked words files (fault_told NoMemory)) (IsTold IsNoName status (fault_told NoMemory))
-    (not_one (refuses_aside asked) status (λ o. omega (arith, s, o))) (inl (Err NoMemory, s, refl))
+pub memory_told : (asked : Inquiry) (words : List (List ℕ)) (files : List FileValue) (status : ℕ) (text : List ℕ) → status ≡ 4 → TellsFault NoMemory text
+    → IsAnswerTold asked words files status text
+memory_told asked words files status text s told =
+    matched_false (comes_aside asked status) (TellsRefusal asked words files text) (IsTold IsNoName status text)
+    (not_one (refuses_aside asked) status (λ o. omega (arith, s, o))) (inl (Err NoMemory, s, told))
 
 -- ---- an inquiry
 

@@ -1,4 +1,5 @@
 pub mod Telling
+mod ShownBytes
 mod Gathering
 pub mod Matched
 pub mod Inquired

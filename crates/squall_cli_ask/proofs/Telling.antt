@@ -7,9 +7,10 @@ use Rattle.squall_cli_device.specs.declared.DeviceFault.{DeviceFault}
 use Rattle.squall_cli_device.specs.States.{SinkState, TookBytes, OutputFails, NoWriteFails}
 use Rattle.squall_cli_lines.specs.declared.RunFault.{RunFault}
 use Rattle.squall_cli_lines.specs.declared.RunFault.TheVariants.{Write}
+use Rattle.squall_cli_lines.specs.declared.Ended.{Ended}
 use Rattle.squall_cli_lines.specs.Heeding.{HeedsWrites, Says}
 use Rattle.squall_cli_lines.proofs.Bytes.{fine_is_no_error}
-use Rattle.squall_cli_ask.specs.Told.{IsTold}
+use Rattle.squall_cli_ask.specs.Told.{status_of, TellsFault, TellsOutcome, IsTold}
 
 -- of a call that sends a text it is told whether a write failed
 pub unfailed : {T : Type 0} (x : T) (old new : SinkState) → HeedsWrites (Ok x) old new → NoWriteFails old new
@@ -61,6 +62,16 @@ pub told_of : (named named' : List ℕ → Type 0) (status : ℕ) (text : List �
 told_of named named' status text more (inl outcome) = inl outcome
 told_of named named' status text more (inr (inl file)) = inr (inl (file.0, more file.0 file.1, file.2, file.3))
 told_of named named' status text more (inr (inr other)) = inr (inr other)
+
+-- what was told of an outcome or of a fault goes with its status
+module _ (named : List ℕ → Type 0) (status : ℕ) (old new : SinkState) where
+  pub outcome_goes : (outcome : Result Ended RunFault) → status ≡ status_of outcome
+      → (text : List ℕ) × TellsOutcome outcome text × Says old new text → (text : List ℕ) × IsTold named status text × Says old new text
+  outcome_goes outcome e t = (t.0, inl (outcome, e, t.1), t.2)
+
+  pub fault_goes : (fault : RunFault) → status ≡ status_of (Err fault)
+      → (text : List ℕ) × TellsFault fault text × Says old new text → (text : List ℕ) × IsTold named status text × Says old new text
+  fault_goes fault e t = (t.0, inl (Err fault, e, t.1), t.2)
 
 -- nothing was told before
 pub told_after : {D : Type 0} (state : D → SinkState) (a b c : D) (P : List ℕ → Type 0) → b ≡ a

@@ -20,6 +20,8 @@ pub use Rattle.squall_cli_audit.specs.Audits
 pub use Rattle.squall_cli_watch.specs.Watched
 pub use Rattle.squall_cli_watch.specs.Drawn
 pub mod Files
+pub mod BadReports
+pub mod Shown
 pub mod Reads
 pub mod Told
 pub mod Gathered

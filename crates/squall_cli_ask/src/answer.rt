@@ -8,6 +8,7 @@ ghost use Rattle.squall_cli_ask.specs.Asked.{words_asked, refuses_aside, is_asid
 ghost use Rattle.squall_cli_ask.specs.Answered.{IsSent};
 
 use crate::audit::answer_for;
+use crate::console::Console;
 use crate::messages::{FINE, INCOMPLETE, REFUSED, tell_fault};
 use squall_cli_boards::{Answer, NamedFile};
 use squall_cli_command::{Ask, Inquiry};
@@ -79,7 +80,12 @@ fn status_of(inquiry: Inquiry, answer: &Answer) -> u8
 }
 
 /// Writes the answer to `out`, and gives the status. Says what stopped it, if something did.
-fn send_answer<O: Sink, E: Sink>(inquiry: Inquiry, answer: &Answer, out: &mut O, err: &mut E) -> u8
+fn send_answer<O: Sink, E: Console>(
+    inquiry: Inquiry,
+    answer: &Answer,
+    out: &mut O,
+    err: &mut E,
+) -> u8
     ensures text { (written : List ℕ) × TookBytes (O.state out.old) (O.state out.new) written × IsSent result inquiry answer.now written }
     ensures told { (text : List ℕ) × IsTold IsNoName result text × Says (E.state err.old) (E.state err.new) text }
     ensures device { result ≡ 3 → OutputFails (O.state out.old) (O.state out.new) }
@@ -101,7 +107,7 @@ fn send_answer<O: Sink, E: Sink>(inquiry: Inquiry, answer: &Answer, out: &mut O,
 /// - 5: the answer is written. It shows a course that is not complete, and the status was to say so.
 ///
 /// With status 3 or 4 `err` says which. A write to `out` that failed always gives status 3.
-pub fn answer_files<O: Sink, E: Sink>(
+pub fn answer_files<O: Sink, E: Console>(
     alloc: Global,
     ask: &Ask,
     files: &[NamedFile],

@@ -6,27 +6,28 @@ ghost use Rattle.squall_cli_device.specs.States.{FoundEnd, NoReadFails, OutputFa
 ghost use Rattle.squall_cli_lines.specs.Heeding.{InputFails, Says};
 ghost use Rattle.squall_cli_ask.specs.Files.{is_input};
 ghost use Rattle.squall_cli_ask.specs.Reads.{bytes_at};
+ghost use Rattle.squall_cli_ask.specs.BadReports.{report_fault};
 ghost use Rattle.squall_cli_ask.specs.Told.{no_report_told};
 ghost use Rattle.squall_cli_ask.specs.Asked.{can_be, words_asked, files_asked, GivesAnswer, IsInquired, IsToldOf};
 
 use crate::answer::answer_files;
+use crate::bad_report::{advice, report_fault};
+use crate::console::Console;
 use crate::files::Files;
-use crate::messages::{BAD_WORDS, say};
+use crate::messages::{BAD_WORDS, say_refused};
 use crate::reading::read_files;
 use squall_cli_boards::{is_report, report_files};
 use squall_cli_command::{Ask, Inquiry};
 use squall_cli_device::{Sink, Source};
 use std::alloc::Global;
 
-/// Says that the words are no report, and gives the status.
-fn tell_no_report<E: Sink>(err: &mut E) -> u8
+/// Says which word keeps the words from being a report, and why, and gives the status.
+fn tell_no_report<E: Sink>(ask: &Ask, err: &mut E) -> u8
     ensures status { result ≡ 2 }
-    ensures told { Says (E.state err.old) (E.state err.new) no_report_told }
+    ensures told { Says (E.state err.old) (E.state err.new) (no_report_told (report_fault (words_asked ask.now))) }
 {
-    say(
-        err,
-        "error: the words are no report: see squall help report\n",
-    );
+    let (word, fault) = report_fault(&ask.words);
+    say_refused(word, advice(fault), err);
     BAD_WORDS
 }
 
@@ -57,13 +58,13 @@ fn files_of(ask: &Ask) -> &[String]
 /// - 0: the answer is written.
 /// - 1: the answer refuses what was given. It goes to `err` if the command writes frames, a picture or
 ///   a plan, and then nothing is written to `out`.
-/// - 2: the words are no report. Nothing is read or written, and `err` says so.
+/// - 2: the words are no report. Nothing is read or written, and `err` says which word is at fault.
 /// - 3: a file can't be opened, a read failed or found no end, or a write failed or took nothing.
 /// - 4: an allocation failed.
 /// - 5: the answer is written. It shows a course that is not complete, and the status was to say so.
 ///
 /// With status 3 or 4 `err` says which.
-pub fn answer_inquiry<F: Files, S: Source, O: Sink, E: Sink>(
+pub fn answer_inquiry<F: Files, S: Source, O: Sink, E: Console>(
     alloc: Global,
     ask: &Ask,
     files: &mut F,
@@ -85,7 +86,7 @@ pub fn answer_inquiry<F: Files, S: Source, O: Sink, E: Sink>(
         (files_asked ask.now) result text × Says (E.state err.old) (E.state err.new) text }
 {
     if !can_be(ask) {
-        return tell_no_report(err);
+        return tell_no_report(ask, err);
     }
     match read_files(alloc, files_of(ask), files, input, err) {
         Ok(read) => answer_files(alloc, ask, &read, out, err),

@@ -9,6 +9,8 @@
 
 mod answer;
 mod audit;
+mod bad_report;
+mod console;
 mod files;
 mod inquiry;
 mod keys;
@@ -16,14 +18,18 @@ pub mod laws;
 mod lines;
 mod messages;
 mod reading;
+mod shown;
 mod stream;
 mod watching;
 
 pub use answer::answer_files;
+pub use console::Console;
 pub use files::Files;
 pub use inquiry::answer_inquiry;
 pub use lines::answer_keys;
-pub use messages::{BAD_WORDS, say, tell_fault, tell_file_outcome, tell_outcome, tell_unopened};
+pub use messages::{
+    BAD_WORDS, say_named, tell_fault, tell_file_outcome, tell_outcome, tell_unopened,
+};
 pub use reading::read_named;
 pub use stream::answer_stream;
 pub use watching::watch_files;

@@ -10,16 +10,17 @@ ghost use Rattle.squall_cli_ask.specs.Reads.{inputs_at, ReadsFrom, ReadsAll};
 ghost use Rattle.squall_cli_ask.specs.Told.{IsTold, IsUnread};
 ghost use Rattle.squall_cli_ask.specs.Gathered.{AreRead, IsNextRead, TakesSome};
 
+use crate::console::Console;
 use crate::files::Files;
 use crate::messages::{tell_fault, tell_file_fault, tell_unopened};
 use squall_cli_boards::NamedFile;
-use squall_cli_device::{Sink, Source};
+use squall_cli_device::Source;
 use squall_cli_lines::{RunFault, read_all};
 use std::alloc::{AllocError, Global};
 
 /// The bytes of the source of that name, up to its end. If they can't be had, it says why, and gives the
 /// status.
-fn read_source<S: Source, E: Sink>(
+fn read_source<S: Source, E: Console>(
     alloc: Global,
     name: &str,
     source: &mut S,
@@ -42,7 +43,7 @@ fn read_source<S: Source, E: Sink>(
 }
 
 /// The bytes of a file. If they can't be had, it says why, and gives the status.
-pub fn read_named<F: Files, S: Source, E: Sink>(
+pub fn read_named<F: Files, S: Source, E: Console>(
     alloc: Global,
     name: &str,
     files: &mut F,
@@ -75,7 +76,7 @@ pub fn read_named<F: Files, S: Source, E: Sink>(
 }
 
 /// The bytes of the next file. There are none if it is standard input and was named before.
-fn read_next<F: Files, S: Source, E: Sink>(
+fn read_next<F: Files, S: Source, E: Console>(
     alloc: Global,
     name: &str,
     is_taken: bool,
@@ -126,7 +127,7 @@ fn add_file(
 
 /// The files of these names, in their order. If standard input is named again, it is empty. If a
 /// file can't be had, it says why, and gives the status.
-pub(crate) fn read_files<F: Files, S: Source, E: Sink>(
+pub(crate) fn read_files<F: Files, S: Source, E: Console>(
     alloc: Global,
     names: &[String],
     files: &mut F,

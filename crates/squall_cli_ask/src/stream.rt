@@ -11,6 +11,7 @@ ghost use Rattle.squall_cli_ask.specs.Asked.{AnswersNothing};
 ghost use Rattle.squall_cli_ask.specs.Followed.{files_followed, status_read, IsStreamed, AnswersStream, IsFollowed, IsPromptTo, FollowsPromptly};
 ghost use Rattle.squall_cli_ask.specs.Followed.{IsDrawnFor, DrawsStream};
 
+use crate::console::Console;
 use crate::files::Files;
 use crate::lines::answer_keys;
 use crate::messages::{BAD_WORDS, say, tell_outcome, tell_watch};
@@ -40,14 +41,14 @@ fn tell_input_taken<E: Sink>(err: &mut E) -> u8
 {
     say(
         err,
-        "error: standard input is read as it comes, so that no file can be -\n",
+        "squall: standard input is read as it comes, so that no file can be -\n",
     );
     BAD_WORDS
 }
 
 /// Answers standard input by the files that were read, and gives the status. A course that is watched
 /// has a bar on `err`. Says what stopped the task, if something did.
-fn answer_input<S: Source, O: Sink, E: Sink>(
+fn answer_input<S: Source, O: Sink, E: Console>(
     alloc: Global,
     stream: Stream,
     files: &[NamedFile],
@@ -77,7 +78,7 @@ fn answer_input<S: Source, O: Sink, E: Sink>(
 }
 
 /// Reads the files, none of which is standard input, and answers standard input by them.
-fn answer_after<F: Files, S: Source, O: Sink, E: Sink>(
+fn answer_after<F: Files, S: Source, O: Sink, E: Console>(
     alloc: Global,
     follow: &Follow,
     files: &mut F,
@@ -121,7 +122,7 @@ fn answer_after<F: Files, S: Source, O: Sink, E: Sink>(
 ///
 /// With status 3 or 4 `err` says which. If `err` is a terminal and a course is watched, it shows bars
 /// before that, as [`watch_files`] does.
-pub fn answer_stream<F: Files, S: Source, O: Sink, E: Sink>(
+pub fn answer_stream<F: Files, S: Source, O: Sink, E: Console>(
     alloc: Global,
     follow: &Follow,
     files: &mut F,

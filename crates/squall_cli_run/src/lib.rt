@@ -23,7 +23,7 @@ pub use check::check_text;
 pub use course::course_text;
 pub use program::Program;
 pub use race::race_text;
-pub use squall_cli_ask::Files;
+pub use squall_cli_ask::{Console, Files};
 pub use squall_cli_command::{Form, LineFault, Task, command};
 pub use squall_cli_device::{DeviceFault, Reader, Sink, Source, Writer};
 pub use squall_cli_lines::{Ended, MOST_READS, RunFault};

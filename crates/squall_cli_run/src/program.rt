@@ -11,7 +11,7 @@ ghost use Rattle.squall_cli_run.specs.Named.{ShowsAndTells};
 
 use crate::output::write_output;
 use crate::tasks::do_task;
-use squall_cli_ask::{BAD_WORDS, Files, say, tell_fault, tell_outcome};
+use squall_cli_ask::{BAD_WORDS, Console, Files, say_named, tell_fault, tell_outcome};
 use squall_cli_command::{LineFault, command, message};
 use squall_cli_device::{Sink, Source};
 use squall_cli_lines::{Ended, RunFault};
@@ -20,7 +20,7 @@ use std::sync::Wait;
 use std::thread::Threads;
 
 /// Shows the help or the version that the words ask for.
-fn show_help<'a, O: Sink, E: Sink>(
+fn show_help<'a, O: Sink, E: Console>(
     alloc: Global,
     title: &str,
     words: &'a [&'a str],
@@ -40,8 +40,13 @@ fn show_help<'a, O: Sink, E: Sink>(
     tell_outcome(write_output(out, Ended::Fine, help.as_str()), err)
 }
 
-/// Shows what is wrong with the words.
-fn show_fault<'a, E: Sink>(alloc: Global, title: &str, words: &'a [&'a str], err: &mut E) -> u8
+/// A text without the `error: ` at its beginning.
+fn without_label(text: &str) -> &str {
+    text.strip_prefix("error: ").unwrap_or(text)
+}
+
+/// Shows what is wrong with the words, after the program's name.
+fn show_fault<'a, E: Console>(alloc: Global, title: &str, words: &'a [&'a str], err: &mut E) -> u8
     ensures bad { result ≢ 4 → result ≡ 2 }
     ensures device { result ≢ 3 }
     ensures told { IsFaulty (words_of words.entry.now) → (text : List ℕ) × IsTold IsNoName result text
@@ -49,7 +54,7 @@ fn show_fault<'a, E: Sink>(alloc: Global, title: &str, words: &'a [&'a str], err
 {
     match message(alloc, title, words) {
         Ok(text) => {
-            say(err, text.as_str());
+            say_named(err, without_label(text.as_str()));
             BAD_WORDS
         }
         Err(_) => tell_fault(RunFault::NoMemory, err),
@@ -93,7 +98,7 @@ impl Program<'_> {
     /// [`race_text`]: crate::race_text
     /// [`check_text`]: crate::check_text
     /// [`course_text`]: crate::course_text
-    pub fn perform<'a, R: Threads + Wait + Sync, F: Files, S: Source, O: Sink, E: Sink>(
+    pub fn perform<'a, R: Threads + Wait + Sync, F: Files, S: Source, O: Sink, E: Console>(
         &self,
         rt: &R,
         words: &'a [&'a str],

@@ -19,7 +19,7 @@ use crate::course::course_text;
 use crate::race::race_text;
 use crate::run_text;
 use squall_cli_ask::{
-    Files, answer_inquiry, answer_stream, read_named, tell_file_outcome, tell_outcome,
+    Console, Files, answer_inquiry, answer_stream, read_named, tell_file_outcome, tell_outcome,
     tell_unopened,
 };
 use squall_cli_command::{Form, Task};
@@ -63,7 +63,7 @@ fn answer_source<R: Threads + Wait + Sync, S: Source, O: Sink>(
 }
 
 /// Does it with the bytes of a file, which is given by its purpose and its name.
-fn answer_file<R: Threads + Wait + Sync, F: Files, S: Source, O: Sink, E: Sink>(
+fn answer_file<R: Threads + Wait + Sync, F: Files, S: Source, O: Sink, E: Console>(
     rt: &R,
     alloc: Global,
     file: (Purpose, &str),
@@ -109,7 +109,7 @@ fn are_input(old: &str, new: &str) -> bool
 
 /// Shows the course between the plans of two files, which are given after the form. If both are
 /// standard input, the second one is empty.
-fn course_files<F: Files, S: Source, O: Sink, E: Sink>(
+fn course_files<F: Files, S: Source, O: Sink, E: Console>(
     alloc: Global,
     plans: (Form, &str, &str),
     files: &mut F,
@@ -142,7 +142,7 @@ fn course_files<F: Files, S: Source, O: Sink, E: Sink>(
 }
 
 /// Does the task.
-pub(crate) fn do_task<R: Threads + Wait + Sync, F: Files, S: Source, O: Sink, E: Sink>(
+pub(crate) fn do_task<R: Threads + Wait + Sync, F: Files, S: Source, O: Sink, E: Console>(
     rt: &R,
     alloc: Global,
     task: &Task,

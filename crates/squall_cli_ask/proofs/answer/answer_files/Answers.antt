@@ -1,6 +1,4 @@
 use Rattle.std.proofs.Common.{◌∙◌, sym, subst, map, string_bytes}
-use Rattle.squall_cli_lines.specs.declared.RunFault.TheVariants.{NoMemory}
-use Rattle.squall_cli_ask.specs.Told.{fault_told}
 use Rattle.squall_cli_ask.specs.Audited.{IsAnswerFor}
 use Rattle.squall_cli_ask.specs.Asked.{words_asked}
 use Rattle.squall_cli_ask.proofs.Answering.{memory_told, sent_answered, sent_told}
@@ -8,7 +6,8 @@ use Rattle.squall_cli_ask.proofs.answer.answer_files.Goals as goal
 
 pub returns-in_default-clause-told : goal.returns-in_default-clause-told
 returns-in_default-clause-told g c =
-    (fault_told NoMemory, memory_told c.args.ask.now.inquiry (words_asked c.args.ask.now) c.args.files.now c.tell_fault.result c.tell_fault.ensures.status, c.tell_fault.ensures.told)
+    let t = c.tell_fault.ensures.told in
+    (t.0, memory_told c.args.ask.now.inquiry (words_asked c.args.ask.now) c.args.files.now c.tell_fault.result t.0 c.tell_fault.ensures.status t.1, t.2)
 
 pub returns-clause-text : goal.returns-clause-text
 returns-clause-text g c =

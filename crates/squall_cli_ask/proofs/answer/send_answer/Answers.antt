@@ -1,8 +1,8 @@
-use Rattle.std.proofs.Common.{[], inl, inr, Err, take, drop, refl, sym, ◌∙◌}
+use Rattle.std.proofs.Common.{[], inr, take, drop, sym, ◌∙◌}
 use Rattle.std.proofs.lemmas.List.{take-append-drop}
 use Rattle.squall_cli_lines.specs.declared.RunFault.TheVariants.{Write}
-use Rattle.squall_cli_ask.specs.Told.{fault_told}
 use Rattle.squall_cli_ask.proofs.Answering.{answer_untold, says_nothing}
+use Rattle.squall_cli_ask.proofs.Telling.{fault_goes}
 use Rattle.squall_cli_ask.proofs.answer.send_answer.Goals as goal
 
 pub returns-in-Ok-clause-told : goal.returns-in-Ok-clause-told
@@ -16,4 +16,4 @@ returns-in-Err-clause-text g c =
     (take sent.0 text, sent.1, inr (c.tell_fault.ensures.status, (drop sent.0 text, sym c.text.ensures ∙ sym (take-append-drop sent.0 text))))
 
 pub returns-in-Err-clause-told : goal.returns-in-Err-clause-told
-returns-in-Err-clause-told g c = (fault_told Write, inl (Err Write, c.tell_fault.ensures.status, refl), c.tell_fault.ensures.told)
+returns-in-Err-clause-told g c = fault_goes _ c.tell_fault.result _ _ Write c.tell_fault.ensures.status c.tell_fault.ensures.told

@@ -6,6 +6,7 @@ use Rattle.squall_cli_device.specs.States.{OutputFails}
 use Rattle.squall_cli_lines.specs.Heeding.{InputFails, Says}
 use Rattle.squall_cli_ask.specs.Files.{is_input}
 use Rattle.squall_cli_ask.specs.Reads.{bytes_at}
+use Rattle.squall_cli_ask.specs.BadReports.{report_fault}
 use Rattle.squall_cli_ask.specs.Told.{IsTold, no_report_told}
 use Rattle.squall_cli_ask.specs.Gathered.{AreRead}
 use Rattle.squall_cli_ask.specs.Asked.{can_be, words_asked, files_asked, IsAnswered, IsAnswerTold, IsToldOf}
@@ -81,9 +82,10 @@ returns-in-Err-clause-told g c =
 
 pub returns-then-not-can_be-clause-told : goal.returns-then-not-can_be-clause-told
 returns-then-not-can_be-clause-told g c =
-    let here = bytes_at (g.F.Files.known c.args.files.now) (g.S.Source.state c.args.input.now) (g.O.Sink.state c.args.out.now) in (
-      no_report_told,
-      no_answer_told c.args.ask.now.inquiry (words_asked c.args.ask.now) here here (files_asked c.args.ask.now) c.tell_no_report.result no_report_told
+    let here = bytes_at (g.F.Files.known c.args.files.now) (g.S.Source.state c.args.input.now) (g.O.Sink.state c.args.out.now) in
+    let bad = report_fault (words_asked c.args.ask.now) in (
+      no_report_told bad,
+      no_answer_told c.args.ask.now.inquiry (words_asked c.args.ask.now) here here (files_asked c.args.ask.now) c.tell_no_report.result (no_report_told bad)
           (λ o. omega (arith, c.tell_no_report.ensures.status, o)) (inr (inr (inl (c.tell_no_report.ensures.status, search rules)))),
       c.tell_no_report.ensures.told,
     )

@@ -1,13 +1,13 @@
-use Rattle.std.proofs.Common.{◌≡◌, ◌++◌, ◌∷◌, [], ℕ, List, false, take, inl, Err, refl, ap, sym, subst, ◌∙◌, ◌+◌}
+use Rattle.std.proofs.Common.{◌≡◌, ◌++◌, ◌∷◌, [], ℕ, List, false, take, refl, ap, sym, subst, ◌∙◌, ◌+◌}
 use Rattle.std.specs.Prelude.{Contains, map, string_bytes}
 use Rattle.std.specs.List.{list_all}
 use Rattle.squall_cli_device.specs.States.{FoundEnd}
 use Rattle.squall_cli_lines.specs.Heeding.{InputFails}
 use Rattle.squall_cli_lines.specs.declared.RunFault.TheVariants.{NoMemory}
 use Rattle.squall_cli_ask.specs.Files.{is_input}
-use Rattle.squall_cli_ask.specs.Told.{IsTold, fault_told}
+use Rattle.squall_cli_ask.specs.Told.{IsTold}
 use Rattle.squall_cli_ask.specs.Gathered.{AreRead, IsNextRead}
-use Rattle.squall_cli_ask.proofs.Telling.{told_of, told_after}
+use Rattle.squall_cli_ask.proofs.Telling.{fault_goes, told_of, told_after}
 use Rattle.squall_cli_ask.proofs.Gathering.{read_more, next_names, contains_next, not_all, none_named, taken_next, kept_next, ended_next, device_next}
 use Rattle.squall_cli_ask.proofs.reading.read_files.Goals as goal
 
@@ -42,7 +42,7 @@ returns-in-Err-clause-told g c =
 pub returns-in_default-clause-told : goal.returns-in_default-clause-told
 returns-in_default-clause-told g c =
     told_after g.E.Sink.state c.args.err.now c.read_next.new.err c.tell_fault.new.err (IsTold (Contains (map string_bytes c.args.names.now)) c.tell_fault.result)
-    (c.in-Ok.ensures.quiet refl ∙ c.loop-name.invariant.err) (fault_told NoMemory, inl (Err NoMemory, c.tell_fault.ensures.status, refl), c.tell_fault.ensures.told)
+    (c.in-Ok.ensures.quiet refl ∙ c.loop-name.invariant.err) (fault_goes _ c.tell_fault.result _ _ NoMemory c.tell_fault.ensures.status c.tell_fault.ensures.told)
 
 pub loop-name-preserved : goal.loop-name-preserved
 loop-name-preserved g c =

@@ -1,5 +1,4 @@
 use Rattle.std.proofs.Common.{inl, refl}
-use Rattle.squall_cli_ask.specs.Told.{outcome_told}
 use Rattle.squall_cli_ask.proofs.Statuses.{zero_is_fine, end_is_fine, no_bad_words, no_bad_watch, lines_fail, watch_fails, lines_heed, watch_heeds}
 use Rattle.squall_cli_ask.proofs.stream.answer_input.Goals as goal
 
@@ -25,8 +24,8 @@ returns-in-Keys-clause-heeds g c = λ other. lines_heed (g.S.Source.state c.args
 
 pub returns-in-Keys-clause-told : goal.returns-in-Keys-clause-told
 returns-in-Keys-clause-told g c =
-    let outcome = c.answer_keys-outcome.result in
-    rw c.in-Keys.is (g.E.Sink.state c.args.err.now, refl, outcome_told outcome, inl (outcome, c.tell_outcome.ensures.status, refl), c.tell_outcome.ensures.told)
+    let t = c.tell_outcome.ensures.told in
+    rw c.in-Keys.is (g.E.Sink.state c.args.err.now, refl, t.0, inl (c.answer_keys-outcome.result, c.tell_outcome.ensures.status, t.1), t.2)
 
 pub returns-in-Frames-clause-text : goal.returns-in-Frames-clause-text
 returns-in-Frames-clause-text g c =

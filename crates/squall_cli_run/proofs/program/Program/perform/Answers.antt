@@ -1,7 +1,6 @@
 use Rattle.std.proofs.Common.{inl, inr, Err, refl, subst, arith}
 use Rattle.squall_cli_lines.specs.declared.RunFault.TheVariants.{NoMemory}
 use Rattle.squall_cli_ask.specs.Reads.{bytes_at}
-use Rattle.squall_cli_ask.specs.Told.{fault_told}
 use Rattle.squall_cli_run.specs.Tasks.{AnswersPromptly, ReadsNoFurther}
 use Rattle.squall_cli_run.proofs.TaskLemmas.{nothing_done, not_ended, nothing_promptly, device_of_words, help_unwritten, drawn_for_words, undrawn_unasked, no_help, no_fault, one_job}
 use Rattle.squall_cli_run.proofs.Telling.{fault_unrefused}
@@ -66,7 +65,9 @@ pub returns-in-Err-NoMemory-clause-help : goal.returns-in-Err-NoMemory-clause-he
 returns-in-Err-NoMemory-clause-help g c = λ _. help_unwritten c.args.self.now.title.now (g.O.Sink.state c.args.out.now) c.tell_fault.result c.tell_fault.ensures.status
 
 pub returns-in-Err-NoMemory-clause-told : goal.returns-in-Err-NoMemory-clause-told
-returns-in-Err-NoMemory-clause-told g c = (g.E.Sink.state c.args.err.now, ((λ job asks. undrawn_unasked _ _ _ c.tell_fault.result (g.E.Sink.state c.args.err.now) c.tell_fault.ensures.status job), inl refl), fault_told NoMemory, inr ((λ one. omega (arith, c.tell_fault.ensures.status, one)), inl (Err NoMemory, c.tell_fault.ensures.status, refl)), c.tell_fault.ensures.told)
+returns-in-Err-NoMemory-clause-told g c =
+    let t = c.tell_fault.ensures.told in
+    (g.E.Sink.state c.args.err.now, ((λ job asks. undrawn_unasked _ _ _ c.tell_fault.result (g.E.Sink.state c.args.err.now) c.tell_fault.ensures.status job), inl refl), t.0, inr ((λ one. omega (arith, c.tell_fault.ensures.status, one)), inl (Err NoMemory, c.tell_fault.ensures.status, t.1)), t.2)
 
 pub returns-in-Err-NoMemory-clause-ended : goal.returns-in-Err-NoMemory-clause-ended
 returns-in-Err-NoMemory-clause-ended g c = λ job asks ended. absurd (not_ended job c.tell_fault.result c.tell_fault.ensures.status ended)
