@@ -2,7 +2,7 @@
 # Runs the tests of integrations/postgresql, for tools/integrations, which reads this file after that of transports/. They
 # start servers on loopback, and end them by their process ids. If the tests are ended, the servers end with them.
 
-partitions=(pg_guard pg_steps pg_mover pg_client pg_check pg_faults)
+partitions=(pg_guard pg_steps pg_mover pg_client pg_go pg_check pg_faults)
 long_partitions=(pg_long)
 
 is_partition() {
@@ -28,6 +28,15 @@ show_partition() {
   fi
 }
 
+# Whether the client in Go can be compiled here, with Debian's package of its driver.
+has_go() {
+  local name
+  for name in go gofmt gcc pkg-config; do
+    command -v "$name" > /dev/null || return
+  done
+  [ -d /usr/share/gocode/src/github.com/lib/pq ]
+}
+
 # All side by side, since most of them wait.
 run_partitions() {
   [ $# -gt 0 ] || return 0
@@ -41,10 +50,15 @@ run_partitions() {
   local name status id
   local -A started=()
   for name in "$@"; do
+    if [ "$name" = pg_go ] && ! has_go; then
+      left_out "postgresql: go: no compiler or no driver for Go here (tools/packages installs them)"
+      continue
+    fi
     start_partition "$name"
     started[$name]=$id
   done
   for name in "$@"; do
+    [ -n "${started[$name]-}" ] || continue
     wait "${started[$name]}"
     status=$?
     show_partition "$name" "$status"
