@@ -51,6 +51,7 @@ class Steps:
         self.places = places
         self.world = World(places.owners(old), places.owners(new), routers)
         self.chunks: dict[Chunk, int] = {}
+        self.whole: dict[tuple[int, int, int, int, range], int] = {}
 
     def happen(self, node: str, line: Line) -> None:
         """The node does what the line says."""
@@ -65,7 +66,7 @@ class Steps:
             part = self.world.route(int(node[1:]), self.places.at(line.number("K")))
             said(f"route to {part}", f"route to {line.number('P')}")
         else:
-            STEPS[kind](self, int(node[1:]), line)
+            getattr(self, STEPS.get(kind, kind))(int(node[1:]), line)
 
     # ---- the leader
 
@@ -160,14 +161,33 @@ class Steps:
         return facts, f"p{cell[2]}"
 
 
-STEPS = {
-    "give": Steps.give,
-    "load": Steps.load,
-    "forget": Steps.forget,
-    "done": Steps.finish,
-    "close": Steps.close,
-    "serve": Steps.serve,
-}
+# The steps of a partition whose names are not the first words of their lines.
+STEPS = {"done": "finish"}
+
+
+class WholeSteps(Steps):
+    """The same as `squall audit` takes them: a line of a chunk is of a whole chunk, and a give of several keys is of the first that are
+    left."""
+
+    def give(self, part: int, line: Line) -> None:
+        """The partition gives the key, or the first keys."""
+        places = self.places.within(line)
+        if line.number("HI") - line.number("LO") == 1:
+            self.world.giveat(part, places.start)
+        else:
+            self.world.give(part, len(places))
+        number, sub, _, dest, lo, hi = self.world.chunks[-1]
+        chunk = range(lo, hi)
+        said(f"{chunk} to {dest} course {number} sub {sub}", f"{places} {line.rest(3)}")
+        self.whole[number, sub, part, dest, chunk] = len(self.world.chunks) - 1
+
+    def load(self, part: int, line: Line) -> None:
+        """The partition loads a chunk."""
+        number, sub, source = (line.number(it) for it in "NSP")
+        index = self.whole.get((number, sub, source, part, self.places.within(line)))
+        if index is None:
+            raise NotYet(f"partition {source} has not given {line.span()} to {part} in sub-plan {sub} of course {number}")
+        said("again" if self.world.load(index) == "again" else "new", str(line.values["HOW"]))
 
 
 def said(answer: str, line: str) -> None:
@@ -184,8 +204,8 @@ def name_of(node: str) -> str:
 class Merging:
     """Logs, of which lines are taken as they can come."""
 
-    def __init__(self, old: Plan, new: Plan, logs: list[Log]) -> None:
-        self.old, self.new, self.logs = old, new, logs
+    def __init__(self, old: Plan, new: Plan, logs: list[Log], kind: type[Steps] = Steps) -> None:
+        self.old, self.new, self.logs, self.kind = old, new, logs, kind
         ranks = {rank for plan in (old, new) for rank, _ in plan}
         self.places = Places(ranks.union(*(bounds_of(line) for log in logs for line in log.lines)))
         self.routers = max([0, *(int(log.node[1:]) + 1 for log in logs if log.node[0] == "r")])
@@ -198,7 +218,7 @@ class Merging:
 
     def begin(self) -> Steps:
         """The world before the first line."""
-        return Steps(self.old, self.new, self.routers, self.places)
+        return self.kind(self.old, self.new, self.routers, self.places)
 
     def take(self, at: int) -> bool:
         """Takes the next line of a log, if it can come: whether it did."""
@@ -245,8 +265,8 @@ class Merging:
         return False, [f"refused {file} {at}: {why}" for file, at, why in heads]
 
 
-def judged(old: Plan, new: Plan, logs: list[Log]) -> tuple[bool, list[str]]:
-    """The verdict on logs of a world that begins with these plans."""
-    merging = Merging(old, new, logs)
+def judged(old: Plan, new: Plan, logs: list[Log], kind: type[Steps] = Steps) -> tuple[bool, list[str]]:
+    """The verdict on logs of a world that begins with these plans, in which lines are steps of this kind."""
+    merging = Merging(old, new, logs, kind)
     merging.take_all()
     return merging.verdict()
