@@ -1,3 +1,4 @@
+pub mod Found
 pub mod Events
 pub mod Turns
 pub mod Hearsay

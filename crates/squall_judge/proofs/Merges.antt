@@ -12,9 +12,11 @@ use Rattle.squall_audit.specs.Logs.{HasLogs, AreFirst, Comes, CanCome, ComesNext
 use Rattle.squall_judge.specs.declared.log.Entry.{Entry}
 use Rattle.squall_judge.specs.declared.log.Log.{Log}
 use Rattle.squall_judge.specs.declared.merge.Merge.{Merge}
+use Rattle.squall_judge.specs.declared.merge.Round.{Round}
+use Rattle.squall_judge.specs.declared.merge.Round.TheVariants.{Moved, Stuck, Never}
 use Rattle.squall_judge.specs.Entries.{line_of, lines_in, logs_of, taken_of, AreApart}
 use Rattle.squall_judge.specs.Turns.{IsOther}
-use Rattle.squall_judge.specs.Merges.{world_of, AreLimits, AreAtMost, IsReady, IsNextEntry, IsBlocked, IsSameMerge, HasTakenAt, IsWrongAt, GoesOn, IsOver, IsWrong, IsFresh, NeverNext, AreCut, IsEnd}
+use Rattle.squall_judge.specs.Merges.{world_of, AreLimits, AreAtMost, IsReady, IsNextEntry, IsBlocked, IsSameMerge, HasTakenAt, IsWrongAt, IsRound, GoesOn, IsOver, IsWrong, IsFresh, NeverNext, AreCut, IsEnd}
 use Rattle.squall_judge.proofs.Counts.{total, total_set, total_less}
 use Rattle.squall_judge.proofs.Logs.{at_there, at_map, next_at, length_map, length_set, set_here, set_there, same_or_not, taken_here, IsFound, found, are_first, none_taken, one_more}
 
@@ -123,6 +125,11 @@ same_wrong logs limits g h k i s t =
       other = subst (λ w. IsOther w t.log.node (line_of t.entry)) s.world t.other;
       taken = t.taken ∙ s.taken;
     }
+
+pub same_round : (logs : List Log) (limits : List ℕ) (g h k : Merge) (r : Round) → IsSameMerge g h → IsRound logs limits h r k → IsRound logs limits g r k
+same_round logs limits g h k (Moved i) s t = same_taken logs limits g h k i s t
+same_round logs limits g h k Stuck s t = (same_both g h k s t.0, λ i low. same_blocked logs limits g h i s (t.1 i low))
+same_round logs limits g h k (Never i) s t = same_wrong logs limits g h k i s t
 
 -- ---- the end of a run
 

@@ -4,6 +4,7 @@ pub use Rattle.squall_protocol.specs.Promises
 pub use Rattle.squall_audit.specs.Logs
 pub mod Entries
 pub mod Turns
+pub mod Found
 pub mod Stages
 pub mod Merges
 pub mod Judging

@@ -83,7 +83,7 @@ IsNext logs limits g i Never h = IsWrongAt logs limits g i h
 
 -- what came of a round over the logs
 abbrev pub IsRound : List Log → List ℕ → Merge → Round → Merge → Type 0
-IsRound logs limits g Moved h = (i : ℕ) × HasTakenAt logs limits g i h
+IsRound logs limits g (Moved i) h = HasTakenAt logs limits g i h
 IsRound logs limits g Stuck h = IsSameMerge g h × ((i : ℕ) → i < length logs → IsBlocked logs limits g.taken.items (world_of g) i)
 IsRound logs limits g (NeverAt i) h = IsWrongAt logs limits g i h
 

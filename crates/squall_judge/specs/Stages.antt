@@ -5,4 +5,4 @@ use Rattle.squall_judge.specs.declared.stage.Stage.{Stage}
 
 -- the chunks of the list are those that were given in the world
 abbrev pub KnowsChunks : Stage → Type 0
-KnowsChunks s = s.chunks.items ≡ (view s.world).chunks
+KnowsChunks s = s.chunks ≡ (view s.world).chunks

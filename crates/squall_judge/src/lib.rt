@@ -29,13 +29,15 @@
 //!
 //! # What it costs
 //!
-//! A chunk is looked for among all that were given, and after each entry the logs are tried anew from
-//! the first on. If a node answers otherwise than its log says, all is taken anew up to there: once
-//! for each such log, since a world cannot go back.
+//! A chunk is found in a map, by what is in it. A log goes on as long as it can, and then the logs are
+//! tried from the first on. If a node answers otherwise than its log says, all is taken anew up to
+//! there: once for each such log, since a world cannot go back.
 //!
 //! Its tests are in `crates/squall_test_audit`.
 #![tactic(auto)]
 
+mod content;
+mod given;
 mod heads;
 mod judging;
 mod judgment;

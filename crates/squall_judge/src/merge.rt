@@ -22,8 +22,8 @@ pub(crate) struct Merge {
 
 /// What comes of one round over the logs.
 enum Round {
-    /// An entry was taken.
-    Moved,
+    /// The next entry of the log at this place was taken.
+    Moved(usize),
     /// No next entry can come.
     Stuck,
     /// The node of the log at this place answers otherwise than its next entry says.
@@ -77,12 +77,29 @@ impl Merge {
     {
         for at in 0..logs.len() {
             match self.next(logs, limits, at)? {
-                Turn::Taken => return Ok(Round::Moved),
+                Turn::Taken => return Ok(Round::Moved(at)),
                 Turn::Waits => {}
                 Turn::Never => return Ok(Round::Never(at)),
             }
         }
         Ok(Round::Stuck)
+    }
+
+    /// Takes the next entry of the log at the place, if it can come, and else of the first log whose next
+    /// entry can. A log goes on as long as it can, so logs that wait are seldom tried.
+    fn go_on(&mut self, logs: &[Log], limits: &[usize], at: usize) -> Result<Round, AllocError>
+        requires ready { IsReady logs.now limits.now self.old }
+        requires limits { AreLimits logs.now limits.now }
+        ensures { IfOk result (λ round. IsRound logs.now limits.now self.old round self.new) }
+    {
+        if at >= logs.len() {
+            return self.round(logs, limits);
+        }
+        match self.next(logs, limits, at)? {
+            Turn::Taken => Ok(Round::Moved(at)),
+            Turn::Waits => self.round(logs, limits),
+            Turn::Never => Ok(Round::Never(at)),
+        }
     }
 
     /// Takes entries until no next one can come. A log is named if its node answers otherwise than its
@@ -98,9 +115,10 @@ impl Merge {
         ensures { IfOk result (λ wrong. HasRun logs.now limits.now self.old wrong self.new) }
     {
         what_comes_happens();
+        let mut last = 0;
         loop {
-            match self.round(logs, limits)? {
-                Round::Moved => {}
+            match self.go_on(logs, limits, last)? {
+                Round::Moved(at) => last = at,
                 Round::Stuck => return Ok(None),
                 Round::Never(at) => return Ok(Some(at)),
             }

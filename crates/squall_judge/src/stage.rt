@@ -11,11 +11,12 @@ ghost use Rattle.squall_judge.specs.Entries.{line_of};
 ghost use Rattle.squall_judge.specs.Turns.{IsTurn, IsMade};
 ghost use Rattle.squall_judge.specs.Stages.{KnowsChunks};
 
+use crate::given::Given;
 use crate::log::Entry;
 use crate::same_answer::{same_answer, same_chunk};
 use crate::turn::{
-    Turn, board_of, gift_of, is_gift, is_no_such, is_not_yet, is_place, origin_of, place_in,
-    same_node, sent_index,
+    Turn, board_of, gift_of, is_gift, is_no_such, is_not_yet, is_place, origin_of, same_node,
+    sent_index,
 };
 use squall_audit::laws::what_comes_happens;
 use squall_key::Key;
@@ -30,7 +31,7 @@ use std::alloc::{AllocError, Global};
 pub(crate) struct Stage {
     alloc: Global,
     pub(crate) world: World,
-    pub(crate) chunks: Vec<Chunk>,
+    pub(crate) chunks: Given,
 }
 
 /// Whether the node is there. One that is not refuses each question as `NoSuch`.
@@ -60,18 +61,17 @@ impl Stage {
         ensures err { IfErr result (λ e. (e ≡ TooManyRouters) ↔ (most_routers < routers)) }
     {
         let world = World::new(alloc, old, new, routers)?;
-        let chunks = Vec::new(alloc);
         Ok(Stage {
             alloc,
             world,
-            chunks,
+            chunks: Given::none(alloc),
         })
     }
 
     /// Makes the event at the node. None if it cannot happen there now.
     fn happen(&mut self, node: &Node, event: &Event) -> Result<Option<Answer>, AllocError>
         ensures ok { IfOk result (λ made. IsMade (view self.old.world) node.now event.now made (view self.new.world)) }
-        ensures chunks { self.new.chunks.items ≡ self.old.chunks.items }
+        ensures chunks { self.new.chunks ≡ self.old.chunks }
     {
         if !is_place(event, node) {
             return Ok(None);
@@ -86,7 +86,7 @@ impl Stage {
     /// Takes the entry of an event that was so answered, and gave nothing.
     fn own(&mut self, node: &Node, event: &Event, answer: &Answer) -> Result<Turn, AllocError>
         requires { KnowsChunks self.old }
-        ensures { IfOk result (λ turn. IsTurn (view self.old.world) node.now (Own event.now answer.now) turn (view self.new.world) self.new.chunks.items) }
+        ensures { IfOk result (λ turn. IsTurn (view self.old.world) node.now (Own event.now answer.now) turn (view self.new.world) self.new.chunks) }
     {
         let Some(got) = self.happen(node, event)? else {
             return Ok(Turn::Waits);
@@ -103,7 +103,7 @@ impl Stage {
     /// Takes the entry of an event that gave the chunk.
     fn gift(&mut self, node: &Node, event: &Event, chunk: Chunk) -> Result<Turn, AllocError>
         requires { KnowsChunks self.old }
-        ensures { IfOk result (λ turn. IsTurn (view self.old.world) node.now (Gift event.now chunk) turn (view self.new.world) self.new.chunks.items) }
+        ensures { IfOk result (λ turn. IsTurn (view self.old.world) node.now (Gift event.now chunk) turn (view self.new.world) self.new.chunks) }
     {
         let Some(got) = self.happen(node, event)? else {
             return Ok(Turn::Waits);
@@ -118,16 +118,15 @@ impl Stage {
         Ok(Turn::Taken)
     }
 
-    /// Takes the entry of a chunk that came, and was so answered. The chunk is looked for among all that
-    /// were given, one after another.
+    /// Takes the entry of a chunk that came, and was so answered. The chunk is found by what is in it.
     fn arrival(&mut self, node: &Node, chunk: Chunk, answer: &Answer) -> Result<Turn, AllocError>
         requires { KnowsChunks self.old }
-        ensures { IfOk result (λ turn. IsTurn (view self.old.world) node.now (Arrival chunk answer.now) turn (view self.new.world) self.new.chunks.items) }
+        ensures { IfOk result (λ turn. IsTurn (view self.old.world) node.now (Arrival chunk answer.now) turn (view self.new.world) self.new.chunks) }
     {
         if !same_node(node, &Node::Part(chunk.dest())) {
             return Ok(Turn::Waits);
         }
-        let Some(at) = place_in(&self.chunks, chunk) else {
+        let Some(at) = self.chunks.find(chunk) else {
             return Ok(Turn::Waits);
         };
         let got = self.world.load(at)?;
@@ -144,7 +143,7 @@ impl Stage {
     fn heard(&mut self, node: &Node, report: &Report) -> Result<Turn, AllocError>
         requires { KnowsChunks self.old }
         ensures { IfOk result (λ turn. IsTurn (view self.old.world) node.now (Hearing (queries_by_report report.now)) turn
-            (view self.new.world) self.new.chunks.items) }
+            (view self.new.world) self.new.chunks) }
     {
         self.world.promised();
         if !is_there(&self.world, node) {
@@ -163,7 +162,7 @@ impl Stage {
     /// Takes the next entry of the node's log, if it can come.
     pub(crate) fn turn(&mut self, node: &Node, entry: &Entry) -> Result<Turn, AllocError>
         requires { KnowsChunks self.old }
-        ensures { IfOk result (λ turn. IsTurn (view self.old.world) node.now (line_of entry.now) turn (view self.new.world) self.new.chunks.items) }
+        ensures { IfOk result (λ turn. IsTurn (view self.old.world) node.now (line_of entry.now) turn (view self.new.world) self.new.chunks) }
     {
         match entry {
             Entry::Own(event, answer) => self.own(node, event, answer),

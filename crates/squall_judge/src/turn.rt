@@ -1,7 +1,6 @@
 //! What comes of entries, and what their events, answers and reports say.
 
 ghost use Rattle.std.specs.Prelude.{◌≡◌, ℕ, true, Some, IsTrue, IsFalse, IfOk, IfSome, IfNone};
-ghost use Rattle.std.specs.List.{slice_get};
 ghost use Rattle.squall_report.specs.Facts.{is_report};
 ghost use Rattle.squall_board.specs.Boards.{report_board};
 ghost use Rattle.squall_protocol.specs.Chunks.{ChunkValue};
@@ -10,7 +9,6 @@ ghost use Rattle.squall_protocol.specs.declared.answer.Refusal.TheVariants.{NoSu
 ghost use Rattle.squall_audit.specs.Lines.{IsNotYet};
 ghost use Rattle.squall_judge.specs.Turns.{place_of, origin_of};
 
-use crate::same_answer::same_chunk;
 use squall_board::Board;
 use squall_key::PartId;
 use squall_protocol::{Answer, Chunk, Event, Node, Refusal};
@@ -98,19 +96,6 @@ pub(crate) fn board_of(alloc: Global, report: &Report) -> Result<Board, AllocErr
     // The proof learns that the report is within its limits.
     let _kind = report.kind();
     Ok(board)
-}
-
-/// The place of the chunk in the list.
-pub(crate) fn place_in(chunks: &[Chunk], chunk: Chunk) -> Option<usize>
-    ensures some { IfSome result (λ at. slice_get chunks.now at ≡ Some chunk) }
-    ensures none { IfNone result ((at : ℕ) → slice_get chunks.now at ≡ Some chunk → ⊥) }
-{
-    for at in 0..chunks.len() {
-        if same_chunk(chunks[at], chunk) {
-            return Some(at);
-        }
-    }
-    None
 }
 
 /// Whether the answer is that what was named is not there.

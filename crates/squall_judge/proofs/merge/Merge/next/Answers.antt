@@ -16,7 +16,7 @@ below n k m less most = omega (arith, less, most)
 
 pub returns-in-Taken : goal.returns-in-Taken
 returns-in-Taken c =
-    let came = subst (λ t. IsTurn (view c.args.self.now.stage.world) c.index-logs-at.result.node (line_of c.index.result.now) t (view c.turn.new.self.world) c.turn.new.self.chunks.items) c.in-Taken.is c.in_ok-turn.ensures in
+    let came = subst (λ t. IsTurn (view c.args.self.now.stage.world) c.index-logs-at.result.node (line_of c.index.result.now) t (view c.turn.new.self.world) c.turn.new.self.chunks) c.in-Taken.is c.in_ok-turn.ensures in
     let next : IsNextEntry c.args.logs.now c.args.limits.now c.args.self.now.taken.items c.args.at c.index-logs-at.result c.index.result.now = record {
       count = c.index-count.result.now;
       limit = get_or c.args.limits.now c.args.at 0;
@@ -34,7 +34,7 @@ returns-in-Taken c =
 
 pub returns-in-Waits : goal.returns-in-Waits
 returns-in-Waits c =
-    let waits = subst (λ t. IsTurn (view c.args.self.now.stage.world) c.index-logs-at.result.node (line_of c.index.result.now) t (view c.turn.new.self.world) c.turn.new.self.chunks.items) c.in-Waits.is c.in_ok-turn.ensures in
+    let waits = subst (λ t. IsTurn (view c.args.self.now.stage.world) c.index-logs-at.result.node (line_of c.index.result.now) t (view c.turn.new.self.world) c.turn.new.self.chunks) c.in-Waits.is c.in_ok-turn.ensures in
     let next : IsNextEntry c.args.logs.now c.args.limits.now c.args.self.now.taken.items c.args.at c.index-logs-at.result c.index.result.now = record {
       count = c.index-count.result.now;
       limit = get_or c.args.limits.now c.args.at 0;
@@ -54,7 +54,7 @@ returns-in-Waits c =
 
 pub returns-in-Never : goal.returns-in-Never
 returns-in-Never c =
-    let other = subst (λ t. IsTurn (view c.args.self.now.stage.world) c.index-logs-at.result.node (line_of c.index.result.now) t (view c.turn.new.self.world) c.turn.new.self.chunks.items) c.in-Never.is c.in_ok-turn.ensures in
+    let other = subst (λ t. IsTurn (view c.args.self.now.stage.world) c.index-logs-at.result.node (line_of c.index.result.now) t (view c.turn.new.self.world) c.turn.new.self.chunks) c.in-Never.is c.in_ok-turn.ensures in
     let next : IsNextEntry c.args.logs.now c.args.limits.now c.args.self.now.taken.items c.args.at c.index-logs-at.result c.index.result.now = record {
       count = c.index-count.result.now;
       limit = get_or c.args.limits.now c.args.at 0;

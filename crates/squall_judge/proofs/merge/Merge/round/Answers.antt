@@ -5,11 +5,9 @@ use Rattle.squall_judge.proofs.Merges.{same_taken, same_wrong, same_both, same_b
 use Rattle.squall_judge.proofs.merge.Merge.round.Goals as goal
 
 pub returns-in-Taken : goal.returns-in-Taken
-returns-in-Taken c = (
-  c.loop-at.at,
-  same_taken c.args.logs.now c.args.limits.now c.args.self.now c.loop-at.self c.next.new.self c.loop-at.at c.loop-at.invariant.same
-      (subst (λ t. IsNext c.args.logs.now c.args.limits.now c.loop-at.self c.loop-at.at t c.next.new.self) c.in-Taken.is c.in_ok-next.ensures),
-)
+returns-in-Taken c =
+    same_taken c.args.logs.now c.args.limits.now c.args.self.now c.loop-at.self c.next.new.self c.loop-at.at c.loop-at.invariant.same
+    (subst (λ t. IsNext c.args.logs.now c.args.limits.now c.loop-at.self c.loop-at.at t c.next.new.self) c.in-Taken.is c.in_ok-next.ensures)
 
 pub returns-in-Never : goal.returns-in-Never
 returns-in-Never c =

@@ -7,7 +7,7 @@ use Rattle.squall_judge.proofs.Turns.{gift_waits, gift_own, gift_other, gift_tak
 use Rattle.squall_judge.proofs.stage.Stage.gift.Goals as goal
 
 pub returns-in_default : goal.returns-in_default
-returns-in_default c = gift_waits (view c.args.self.now.world) (view c.happen.new.self.world) c.args.node.now c.args.event.now c.args.chunk c.happen.new.self.chunks.items (subst (λ o. IsMade (view c.args.self.now.world) c.args.node.now c.args.event.now o (view c.happen.new.self.world)) c.in_default.is c.in_ok-got.ensures.ok) (c.in_ok-got.ensures.chunks ∙ c.requires)
+returns-in_default c = gift_waits (view c.args.self.now.world) (view c.happen.new.self.world) c.args.node.now c.args.event.now c.args.chunk c.happen.new.self.chunks (subst (λ o. IsMade (view c.args.self.now.world) c.args.node.now c.args.event.now o (view c.happen.new.self.world)) c.in_default.is c.in_ok-got.ensures.ok) (c.in_ok-got.ensures.chunks ∙ c.requires)
 
 pub returns-in_default-gift_of : goal.returns-in_default-gift_of
 returns-in_default-gift_of c = gift_own (view c.args.self.now.world) (view c.happen.new.self.world) c.args.node.now c.args.event.now c.args.chunk c.in-Some.got (subst (λ o. IsMade (view c.args.self.now.world) c.args.node.now c.args.event.now o (view c.happen.new.self.world)) c.in-Some.is c.in_ok-got.ensures.ok) c.in_default-gift_of.ensures.none
@@ -20,6 +20,6 @@ returns-then-not-same_chunk c =
 pub returns : goal.returns
 returns c =
     let given = c.in-Some-gift_of.ensures.some in
-    subst (λ y. IsTurn (view c.args.self.now.world) c.args.node.now (Gift c.args.event.now y) Taken (view c.happen.new.self.world) c.push.new.self.items) (c.same_chunk.ensures.same c.if-not-same_chunk.false)
-    (subst (λ cs. IsTurn (view c.args.self.now.world) c.args.node.now (Gift c.args.event.now c.in-Some-gift_of.given) Taken (view c.happen.new.self.world) cs) (sym c.in_ok-push.ensures.items)
-    (gift_taken (view c.args.self.now.world) (view c.happen.new.self.world) c.args.node.now c.args.event.now given.0 c.in-Some-gift_of.given c.happen.new.self.chunks.items (subst (λ b. IsDone (view c.args.self.now.world) c.args.node.now c.args.event.now b (view c.happen.new.self.world)) given.1 (subst (λ o. IsMade (view c.args.self.now.world) c.args.node.now c.args.event.now o (view c.happen.new.self.world)) c.in-Some.is c.in_ok-got.ensures.ok)) (c.in_ok-got.ensures.chunks ∙ c.requires)))
+    subst (λ y. IsTurn (view c.args.self.now.world) c.args.node.now (Gift c.args.event.now y) Taken (view c.happen.new.self.world) c.push.new.self) (c.same_chunk.ensures.same c.if-not-same_chunk.false)
+    (subst (λ cs. IsTurn (view c.args.self.now.world) c.args.node.now (Gift c.args.event.now c.in-Some-gift_of.given) Taken (view c.happen.new.self.world) cs) (sym c.in_ok-push.ensures)
+    (gift_taken (view c.args.self.now.world) (view c.happen.new.self.world) c.args.node.now c.args.event.now given.0 c.in-Some-gift_of.given c.happen.new.self.chunks (subst (λ b. IsDone (view c.args.self.now.world) c.args.node.now c.args.event.now b (view c.happen.new.self.world)) given.1 (subst (λ o. IsMade (view c.args.self.now.world) c.args.node.now c.args.event.now o (view c.happen.new.self.world)) c.in-Some.is c.in_ok-got.ensures.ok)) (c.in_ok-got.ensures.chunks ∙ c.requires)))

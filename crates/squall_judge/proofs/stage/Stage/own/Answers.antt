@@ -6,7 +6,7 @@ use Rattle.squall_judge.proofs.Turns.{own_waits, own_gave, own_other, own_taken}
 use Rattle.squall_judge.proofs.stage.Stage.own.Goals as goal
 
 pub returns-in_default : goal.returns-in_default
-returns-in_default c = own_waits (view c.args.self.now.world) (view c.happen.new.self.world) c.args.node.now c.args.event.now c.args.answer.now c.happen.new.self.chunks.items (subst (λ o. IsMade (view c.args.self.now.world) c.args.node.now c.args.event.now o (view c.happen.new.self.world)) c.in_default.is c.in_ok-got.ensures.ok) (c.in_ok-got.ensures.chunks ∙ c.requires)
+returns-in_default c = own_waits (view c.args.self.now.world) (view c.happen.new.self.world) c.args.node.now c.args.event.now c.args.answer.now c.happen.new.self.chunks (subst (λ o. IsMade (view c.args.self.now.world) c.args.node.now c.args.event.now o (view c.happen.new.self.world)) c.in_default.is c.in_ok-got.ensures.ok) (c.in_ok-got.ensures.chunks ∙ c.requires)
 
 pub returns-then-is_gift : goal.returns-then-is_gift
 returns-then-is_gift c =
@@ -20,4 +20,4 @@ returns-then-not-same_answer c =
 pub returns : goal.returns
 returns c =
     let same = c.same_answer.ensures.same c.if-not-same_answer.false in
-    own_taken (view c.args.self.now.world) (view c.happen.new.self.world) c.args.node.now c.args.event.now c.args.answer.now c.happen.new.self.chunks.items (subst (λ b. IsDone (view c.args.self.now.world) c.args.node.now c.args.event.now b (view c.happen.new.self.world)) same (subst (λ o. IsMade (view c.args.self.now.world) c.args.node.now c.args.event.now o (view c.happen.new.self.world)) c.in-Some.is c.in_ok-got.ensures.ok)) (subst NotGiven same (c.is_gift.ensures.none c.if-is_gift.false)) (c.in_ok-got.ensures.chunks ∙ c.requires)
+    own_taken (view c.args.self.now.world) (view c.happen.new.self.world) c.args.node.now c.args.event.now c.args.answer.now c.happen.new.self.chunks (subst (λ b. IsDone (view c.args.self.now.world) c.args.node.now c.args.event.now b (view c.happen.new.self.world)) same (subst (λ o. IsMade (view c.args.self.now.world) c.args.node.now c.args.event.now o (view c.happen.new.self.world)) c.in-Some.is c.in_ok-got.ensures.ok)) (subst NotGiven same (c.is_gift.ensures.none c.if-is_gift.false)) (c.in_ok-got.ensures.chunks ∙ c.requires)
