@@ -9,6 +9,14 @@ from plain_log import Malformed, read_log, read_plan
 
 # How many lines of scenarios the runs take.
 EVENTS = [20, 40, 100, 200, 300]
+# The causes of refused lines, by what the plain judge says.
+CAUSES = {
+    "the answer is": "Answer",
+    "has not given": "NotGiven",
+    "has not reported": "NotReported",
+    "no plan names": "NoSuch",
+    "not all keys are": "Running",
+}
 # Words that may come in the place of others.
 WORDS = ["new", "again", "held", "behind", "elsewhere", "pending", "moved", "loaded", "done", "opened", "part", "x", "", "0", "2", "end"]
 
@@ -132,6 +140,13 @@ def events_of(log):
     return log._replace(lines=[it for it in log.lines if not it.form.startswith("forget")])
 
 
+def in_a_word(line):
+    """The line of the verdict with its cause in a word, as `squall audit` says it."""
+    head, _, why = line.partition(": ")
+    cause = next((word for text, word in CAUSES.items() if text in why), None)
+    return f"{head} {cause}" if cause else head
+
+
 def audit(draw):
     """Logs of a run, most of them changed, and the verdict of the plain judge."""
     run, count = Written(draw), draw.choice(EVENTS)
@@ -158,5 +173,5 @@ def audit(draw):
         raise AssertionError(f"the logs of a run are refused: {lines}")
     data = {name: text.encode() for name, text in files.items()}
     plans = {"old.json": run.plans[0].encode(), "new.json": run.plans[1].encode()}
-    out = "".join(f"{line.split(':')[0]}\n" for line in lines)
+    out = "".join(f"{in_a_word(line)}\n" for line in lines)
     return Trial(["audit", *plans, *data], b"", out.encode(), status=int(not is_accepted), files={**plans, **data})

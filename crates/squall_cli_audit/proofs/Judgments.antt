@@ -25,7 +25,7 @@ logs_fit fs logs lent nss e a = ap length e ∙ as_many_logs fs logs nss a
 -- a judgment says how many entries were taken of as many logs
 pub taken_fit : (old new : List PlanRange) (logs : List Log) (judgment : Judgment) (n : ℕ) → length logs ≡ n → IsJudged old new logs judgment → IsOfLogs judgment n
 taken_fit old new logs Accepted n e judged = tt
-taken_fit old new logs (RefusedLogs taken) n e judged = judged.2.each ∙ e
+taken_fit old new logs (RefusedLogs taken causes) n e judged = (judged.2.each ∙ e, judged.2.causes.each ∙ e)
 
 -- what is shown of a judgment is what may be shown of the logs
 pub judgment_shows : (old new : List PlanRange) (files : List FileValue) (logs lent : List Log) (nss : List (List ℕ)) (judgment : Judgment) (r : Result Ended AllocError) (before after : List ℕ) → lent ≡ logs → IsJudged old new lent judgment → IfOk r (λ ended. (x : List ℕ) × (after ≡ before ++ x) × ShowsJudgment files logs nss judgment ended x) → IfOk r (λ ended. (x : List ℕ) × (after ≡ before ++ x) × ShowsLogs old new files logs nss ended x)

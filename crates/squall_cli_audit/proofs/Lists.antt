@@ -2,7 +2,9 @@
 use Rattle.std.proofs.Common.{◌≡◌, ◌∙◌, ℕ, suc, ◌+◌, ◌<◌, List, [], ◌∷◌, ◌++◌, map, length, take, drop, ap, refl, sym, subst, arith}
 use Rattle.std.proofs.Math.ListN.{get_or}
 use Rattle.std.proofs.lemmas.List.{append_assoc, length-map, get_or-map, take_more, drop_more}
+use Rattle.std.specs.Prelude.{Option, None}
 use Rattle.squall_judge.specs.declared.log.Log.{Log}
+use Rattle.squall_judge.specs.declared.judgment.Cause.{Cause}
 use Rattle.squall_cli_audit.specs.LogTexts.{IsLogOf}
 use Rattle.squall_cli_audit.specs.LogFiles.{FileValue, AreLogsOf}
 use Rattle.squall_cli_audit.specs.AuditText.{refused_text, refused_lines}
@@ -49,16 +51,22 @@ as_many_lines (g ∷ gs) (l ∷ ls) (x ∷ xs) a = ap suc (as_many_lines gs ls x
 
 -- ---- what is shown
 
-refused_of : (fs gs : List FileValue) (nss mss : List (List ℕ)) (ts us : List ℕ) (f : FileValue) (ns : List ℕ) (t : ℕ) → fs ≡ f ∷ gs → nss ≡ ns ∷ mss → ts ≡ t ∷ us → refused_lines fs nss ts ≡ refused_text f.name ns t ++ refused_lines gs mss us
-refused_of fs gs nss mss ts us f ns t d e h = rw (d, e, h) refl
+refused_of : (fs gs : List FileValue) (nss mss : List (List ℕ)) (ts us : List ℕ) (cs ds : List (Option Cause)) (f : FileValue) (ns : List ℕ) (t : ℕ) (c : Option Cause) → fs ≡ f ∷ gs → nss ≡ ns ∷ mss → ts ≡ t ∷ us → cs ≡ c ∷ ds
+    → refused_lines fs nss ts cs ≡ refused_text f.name ns t c ++ refused_lines gs mss us ds
+refused_of fs gs nss mss ts us cs ds f ns t c d e h k = rw (d, e, h, k) refl
 
 -- the lines from one file on
-pub refused_from : {A : Type 0} (g : A → List ℕ) (fs : List FileValue) (lines : List A) (ts : List ℕ) (i : ℕ) (f : FileValue) (ns : A) → i < length fs → length lines ≡ length fs → length ts ≡ length fs → f ≡ get_or fs i f → ns ≡ get_or lines i ns → refused_lines (drop i fs) (drop i (map g lines)) (drop i ts) ≡ refused_text f.name (g ns) (get_or ts i 0) ++ refused_lines (drop (i + 1) fs) (drop (i + 1) (map g lines)) (drop (i + 1) ts)
-refused_from g fs lines ts i f ns l a b d e =
+pub refused_from : {A : Type 0} (g : A → List ℕ) (fs : List FileValue) (lines : List A) (ts : List ℕ) (cs : List (Option Cause)) (i : ℕ) (f : FileValue) (ns : A) → i < length fs → length lines ≡ length fs
+    → length ts ≡ length fs → length cs ≡ length fs → f ≡ get_or fs i f → ns ≡ get_or lines i ns
+    → refused_lines (drop i fs) (drop i (map g lines)) (drop i ts) (drop i cs)
+    ≡ refused_text f.name (g ns) (get_or ts i 0) (get_or cs i None) ++ refused_lines (drop (i + 1) fs) (drop (i + 1) (map g lines)) (drop (i + 1) ts) (drop (i + 1) cs)
+refused_from g fs lines ts cs i f ns l a b k d e =
     let within : i < length lines = omega (arith, l, a) in
-    refused_of (drop i fs) (drop (i + 1) fs) (drop i (map g lines)) (drop (i + 1) (map g lines)) (drop i ts) (drop (i + 1) ts) f (g ns) (get_or ts i 0) (drop_more fs i f l ∙ ap (λ x. x ∷ drop (i + 1) fs) (sym d))
+    refused_of (drop i fs) (drop (i + 1) fs) (drop i (map g lines)) (drop (i + 1) (map g lines)) (drop i ts) (drop (i + 1) ts) (drop i cs) (drop (i + 1) cs) f (g ns) (get_or ts i 0) (get_or cs i None)
+    (drop_more fs i f l ∙ ap (λ x. x ∷ drop (i + 1) fs) (sym d))
     (drop_more (map g lines) i (g ns) (omega (arith, within, length-map lines g)) ∙ ap (λ x. x ∷ drop (i + 1) (map g lines)) (get_or-map g lines i ns (g ns) within ∙ ap g (sym e)))
     (drop_more ts i 0 (omega (arith, l, b)))
+    (drop_more cs i None (omega (arith, l, k)))
 
 -- the text grows by one line
 pub grows_by : (out grown text all rest whole : List ℕ) → grown ≡ out ++ text → all ≡ text ++ rest → out ++ all ≡ whole → grown ++ rest ≡ whole

@@ -81,7 +81,7 @@ not_refused e = cc
 of_judgment : (old new : List PlanRange) (files : List FileValue) (shown : List ℕ) (logs : List Log) (nss : List (List ℕ)) (judgment : Judgment) → AreLogsOf files logs nss → IsJudged old new logs judgment → ShowsJudgment files logs nss judgment Fine shown → AreOfARun old new files shown
 of_judgment old new files shown logs nss Accepted are judged h =
     record { logs = logs; numbers = nss; are = are; text = h.1; routers = judged.0; world = judged.2.world; run = judged.2.has; reached = judged.2.reached }
-of_judgment old new files shown logs nss (RefusedLogs taken) are judged h = absurd (not_refused h.0)
+of_judgment old new files shown logs nss (RefusedLogs taken causes) are judged h = absurd (not_refused h.0)
 
 of_logs : (old new : List PlanRange) (files : List FileValue) (shown : List ℕ) (logs : List Log) (nss : List (List ℕ)) → AreLogsOf files logs nss → ShowsLogs old new files logs nss Fine shown → AreOfARun old new files shown
 of_logs old new files shown logs nss are (inl h) = of_judgment old new files shown logs nss h.0 are h.1 h.2

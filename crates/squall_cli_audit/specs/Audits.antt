@@ -54,10 +54,10 @@ pub record ShowsFault (files : List FileValue) (logs : List Log) (shown : List �
 
 -- ---- what may be shown
 
--- Logs that a run has are counted. Else each log with entries left is named, with the line of the next one.
+-- Logs that a run has are counted. Else each log with entries left is named, with the line of the next one and the cause.
 abbrev pub ShowsJudgment : List FileValue → List Log → List (List ℕ) → Judgment → Ended → List ℕ → Type 0
 ShowsJudgment files logs nss Accepted ended shown = (ended ≡ Fine) × (shown ≡ accepted_text logs)
-ShowsJudgment files logs nss (RefusedLogs taken) ended shown = (ended ≡ Refused) × (shown ≡ refused_lines files nss taken.items)
+ShowsJudgment files logs nss (RefusedLogs taken causes) ended shown = (ended ≡ Refused) × (shown ≡ refused_lines files nss taken.items causes.items)
 
 abbrev pub ShowsLogs : List PlanRange → List PlanRange → List FileValue → List Log → List (List ℕ) → Ended → List ℕ → Type 0
 ShowsLogs old new files logs nss ended shown =

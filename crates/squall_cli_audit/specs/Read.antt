@@ -24,7 +24,7 @@ abbrev pub AreRead : List FileValue → Result ReadFiles BadFile → Type 0
 AreRead files (Ok read) = AreLogsOf files read.logs.items (map (λ ns. ns.items) read.lines.items)
 AreRead files (Err bad) = IsFirstBadFile files bad.index bad.line
 
--- a judgment that refuses says of so many logs how many entries were taken
+-- a judgment that refuses says of so many logs how many entries were taken, and why others are left
 abbrev pub IsOfLogs : Judgment → ℕ → Type 0
 IsOfLogs Accepted n = Unit {0}
-IsOfLogs (Refused taken) n = length taken.items ≡ n
+IsOfLogs (Refused taken causes) n = (length taken.items ≡ n) × (length causes.items ≡ n)

@@ -62,8 +62,8 @@ fn show_judgment(
             add_accepted(&read.logs, out)?;
             Ok(Ended::Fine)
         }
-        Judgment::Refused(taken) => {
-            add_stops(files, &read.lines, taken, out)?;
+        Judgment::Refused { taken, causes } => {
+            add_stops(files, &read.lines, taken, causes, out)?;
             Ok(Ended::Refused)
         }
     }
@@ -100,7 +100,8 @@ fn refuse_file(files: &[LogFile], bad: BadFile, out: &mut String) -> Result<Ende
 /// Audits the logs of files, whose first plans are these, and adds to `out` what it shows.
 ///
 /// If a run has the logs, that is `accepted N lines of M logs`. Else each log that stops has a line
-/// `refused NAME LINE`, in the order of the files: no run has the entry of that line. Lines count from 1.
+/// `refused NAME LINE CAUSE`, in the order of the files: no run has the entry of that line, and the cause
+/// says why. Lines count from 1.
 ///
 /// It answers `Refused` then, and in these cases too, each with one line. `bad NAME LINE` if a file is
 /// no log: the first such file, and its first bad line. `refused NAME TwoLogs` if the node of a log has

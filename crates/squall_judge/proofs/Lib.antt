@@ -6,4 +6,5 @@ pub mod Counts
 pub mod Nodes
 pub mod Logs
 pub mod Merges
+pub mod Left
 pub mod Ends

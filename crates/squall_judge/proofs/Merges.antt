@@ -16,7 +16,8 @@ use Rattle.squall_judge.specs.declared.merge.Round.{Round}
 use Rattle.squall_judge.specs.declared.merge.Round.TheVariants.{Moved, Stuck, Never}
 use Rattle.squall_judge.specs.Entries.{line_of, lines_in, logs_of, taken_of, AreApart}
 use Rattle.squall_judge.specs.Turns.{IsOther}
-use Rattle.squall_judge.specs.Merges.{world_of, AreLimits, AreAtMost, IsReady, IsNextEntry, IsBlocked, IsSameMerge, HasTakenAt, IsWrongAt, IsRound, GoesOn, IsOver, IsWrong, IsFresh, NeverNext, AreCut, IsEnd}
+use Rattle.squall_judge.specs.Merges.{world_of, AreLimits, AreAtMost, IsReady, IsNextEntry, IsBlocked, IsSameMerge, HasTakenAt, IsWrongAt, IsRound, GoesOn, IsOver, IsWrong, IsFresh, AreCut, IsEnd, AreStuck, IsEndOf}
+use Rattle.squall_judge.specs.Judging.{NeverNext}
 use Rattle.squall_judge.proofs.Counts.{total, total_set, total_less}
 use Rattle.squall_judge.proofs.Logs.{at_there, at_map, next_at, length_map, length_set, set_here, set_there, same_or_not, taken_here, IsFound, found, are_first, none_taken, one_more}
 
@@ -290,18 +291,32 @@ module _ (old new : List PlanRange) (routers : ℕ) (logs : List Log) where
             blocked f.place place f.log entry.0 (record { count = f.count; limit = limit.0; log_at = f.log_at; count_at = f.count_at; limit_at = limit.1; below = less f.count limit.0 low other; entry_at = entry.1 }) could)
             (same_or_not f.count limit.0)
 
+    stuck_here : AreApart logs → AreStuck (world_of g) logs g.taken.items
+    stuck_here apart i n log entry log_at count_at entry_at can =
+        let place = slice_get_within logs i log log_at in
+        let limit = at_there limits i (let same = cut.most.each in omega (arith, same, place)) in
+        let low = ready.within i n limit.0 count_at limit.1 in
+        ⊎_elim
+        (λ (same : n ≡ limit.0). ⊎_elim
+        (λ (all : limit.0 ≡ length log.entries.items). let inside = slice_get_within log.entries.items n entry entry_at in omega (arith, same, all, inside))
+        (λ (never : NeverNext (start old new routers) log limit.0).
+        never (world_of g) (taken_of logs g.taken.items) entry has (taken_here logs g.taken.items i n log apart log_at count_at ∙ ap (λ k. take k (lines_in log)) same) (subst (λ k. slice_get log.entries.items k ≡ Some entry) same entry_at) can)
+        (cut.cut i limit.0 log log_at limit.1))
+        (λ (other : n ≡ limit.0 → ⊥).
+        blocked i place log entry (record { count = n; limit = limit.0; log_at = log_at; count_at = count_at; limit_at = limit.1; below = less n limit.0 low other; entry_at = entry_at }) can)
+        (same_or_not n limit.0)
+
     none_next : ComesNext (world_of g) (logs_of logs) (taken_of logs g.taken.items) → ⊥
     none_next n = stuck n.node n.line n.next_line n.comes
 
   pub ended : (limits : List ℕ) (f g : Merge) → IsFresh old new routers logs f → IsOver logs limits f g → AreCut (start old new routers) logs limits
       → ((s u : WorldValue) (all taken : Node → List Line) → IsReached s → HasLogs s taken u → AreFirst taken all → (ComesNext u all taken → ⊥) → NoRunHasMore s all taken)
       → ((s u : WorldValue) (all : Node → List Line) → IsReached s → HasLogs s all u → IsReached u)
-      → IsEnd (start old new routers) logs g.taken.items
+      → IsEnd (start old new routers) (world_of g) logs g.taken.items
   ended limits f g fresh over cut no_more reach =
       let has : HasLogs (start old new routers) (taken_of logs g.taken.items) (world_of g) = goes_from f (world_of g) g.taken.items fresh over.goes in
       let begun = reached_start f fresh in
       record {
-        world = world_of g;
         has = has;
         reached = reach (start old new routers) (world_of g) (taken_of logs g.taken.items) begun has;
         each = over.ready.each;
@@ -313,4 +328,16 @@ module _ (old new : List PlanRange) (routers : ℕ) (logs : List Log) where
             omega (arith, low, most);
         none = no_more (start old new routers) (world_of g) (logs_of logs) (taken_of logs g.taken.items) begun has (are_first logs g.taken.items over.ready.each)
             (none_next limits g cut over.ready over.blocked has);
+      }
+
+  pub ended_of : (limits : List ℕ) (f g : Merge) → AreApart logs → IsFresh old new routers logs f → IsOver logs limits f g → AreCut (start old new routers) logs limits
+      → ((s u : WorldValue) (all taken : Node → List Line) → IsReached s → HasLogs s taken u → AreFirst taken all → (ComesNext u all taken → ⊥) → NoRunHasMore s all taken)
+      → ((s u : WorldValue) (all : Node → List Line) → IsReached s → HasLogs s all u → IsReached u)
+      → IsEndOf (start old new routers) logs limits g
+  ended_of limits f g apart fresh over cut no_more reach =
+      record {
+        end = ended limits f g fresh over cut no_more reach;
+        chunks = over.ready.chunks;
+        cut = cut;
+        stuck = stuck_here limits g cut over.ready over.blocked (goes_from f (world_of g) g.taken.items fresh over.goes) apart;
       }

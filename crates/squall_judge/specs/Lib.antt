@@ -6,5 +6,6 @@ pub mod Entries
 pub mod Turns
 pub mod Found
 pub mod Stages
-pub mod Merges
 pub mod Judging
+pub mod Merges
+pub mod Seen

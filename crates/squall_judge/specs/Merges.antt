@@ -18,6 +18,7 @@ use Rattle.squall_judge.specs.declared.merge.Merge.{Merge}
 use Rattle.squall_judge.specs.Entries.{line_of, lines_in, logs_of, taken_of}
 use Rattle.squall_judge.specs.Turns.{IsOther}
 use Rattle.squall_judge.specs.Stages.{KnowsChunks}
+use Rattle.squall_judge.specs.Judging.{NeverNext}
 
 -- the world of a merge
 abbrev pub world_of : Merge → WorldValue
@@ -117,22 +118,27 @@ pub record IsFresh (old new : List PlanRange) (routers : ℕ) (logs : List Log) 
   pub reached : IsReached (world_of g)
   pub none : g.taken.items ≡ replicate (length logs) 0
 
--- no run that has the first entries of the log, so many, goes on with the next one
-abbrev pub NeverNext : WorldValue → Log → ℕ → Type 0
-NeverNext s log n =
-    (u : WorldValue) (lines : Node → List Line) (entry : Entry) → HasLogs s lines u → lines log.node ≡ take n (lines_in log) → slice_get log.entries.items n ≡ Some entry → CanCome u log.node (line_of entry)
-    → ⊥
-
 -- below its limit a log has all its entries, or only such as come before one that no run has
 pub record AreCut (s : WorldValue) (logs : List Log) (limits : List ℕ) : Type 0 where
   pub most : AreLimits logs limits
   pub cut : (i n : ℕ) (log : Log) → slice_get logs i ≡ Some log → slice_get limits i ≡ Some n → (n ≡ length log.entries.items) ⊎ NeverNext s log n
 
--- a run has what was taken, and no run has more of any log
-pub record IsEnd (s : WorldValue) (logs : List Log) (taken : List ℕ) : Type 0 where
-  pub world : WorldValue
-  pub has : HasLogs s (taken_of logs taken) world
-  pub reached : IsReached world
+-- the run to this world has what was taken, and no run has more of any log
+pub record IsEnd (s w : WorldValue) (logs : List Log) (taken : List ℕ) : Type 0 where
+  pub has : HasLogs s (taken_of logs taken) w
+  pub reached : IsReached w
   pub each : length taken ≡ length logs
   pub within : (i n : ℕ) (log : Log) → slice_get logs i ≡ Some log → slice_get taken i ≡ Some n → n ≤ length log.entries.items
   pub none : NoRunHasMore s (logs_of logs) (taken_of logs taken)
+
+-- no next entry of any log can come in the world
+abbrev pub AreStuck : WorldValue → List Log → List ℕ → Type 0
+AreStuck w logs taken =
+    (i n : ℕ) (log : Log) (entry : Entry) → slice_get logs i ≡ Some log → slice_get taken i ≡ Some n → slice_get log.entries.items n ≡ Some entry → CanCome w log.node (line_of entry) → ⊥
+
+-- so it is of this merge, with logs that were cut to so many
+pub record IsEndOf (s : WorldValue) (logs : List Log) (limits : List ℕ) (g : Merge) : Type 0 where
+  pub end : IsEnd s (world_of g) logs g.taken.items
+  pub chunks : KnowsChunks g.stage
+  pub cut : AreCut s logs limits
+  pub stuck : AreStuck (world_of g) logs g.taken.items

@@ -6,9 +6,10 @@ ghost use Rattle.squall_protocol.specs.Worlds.{most_routers, start};
 ghost use Rattle.squall_judge.specs.declared.judgment.JudgeFault.TheVariants.{TwoLogs, TooManyRouters, NoMemory};
 ghost use Rattle.squall_judge.specs.declared.log.Log.{Log};
 ghost use Rattle.squall_judge.specs.Entries.{AreApart, HasTwoLogs, HasNoRouter};
-ghost use Rattle.squall_judge.specs.Merges.{AreCut, IsEnd};
+ghost use Rattle.squall_judge.specs.Merges.{AreCut, IsEndOf};
 ghost use Rattle.squall_judge.specs.Judging.{AreAllTaken, HasMore, IsJudged};
 
+use crate::causes::causes_of;
 use crate::heads::{are_apart, lengths_of, routers_of};
 use crate::judgment::{JudgeFault, Judgment};
 use crate::log::Log;
@@ -33,7 +34,8 @@ fn are_all(logs: &[Log], taken: &[usize]) -> bool
 }
 
 /// Takes entries until no next one can come, of each log at most as many as the limit says. If a node
-/// answers otherwise than its log says, its log is cut before that entry, and all is taken anew.
+/// answers otherwise than its log says, its log is cut before that entry, and all is taken anew. The
+/// limits are what each log was cut to.
 fn merged(
     alloc: Global,
     old: &Plan,
@@ -41,10 +43,10 @@ fn merged(
     routers: u32,
     logs: &[Log],
     mut limits: Vec<usize>,
-) -> Result<Vec<usize>, JudgeFault>
+) -> Result<(Merge, Vec<usize>), JudgeFault>
     requires apart { AreApart logs.now }
     requires limits { limits.items ≡ map (λ (log : Log). length log.entries.items) logs.now }
-    ensures ok { IfOk result (λ taken. IsEnd (start old.now new.now routers) logs.now taken.items) }
+    ensures ok { IfOk result (λ m. IsEndOf (start old.now new.now routers) logs.now m.1.items m.0) }
     ensures err { IfErr result (λ e. e ≡ NoMemory) }
 {
     logs_answer();
@@ -58,7 +60,7 @@ fn merged(
             return Err(JudgeFault::NoMemory);
         };
         let Some(at) = wrong else {
-            return Ok(merge.taken);
+            return Ok((merge, limits));
         };
         limits[at] = merge.taken[at];
     }
@@ -72,7 +74,8 @@ fn merged(
 /// comes from. So nothing that a log says is taken on trust.
 ///
 /// If the logs are accepted, a run has them, and all that holds in every run holds where it ends. If
-/// they are refused, no run has any of the entries that are left.
+/// they are refused, no run has any of the entries that are left, and the next one of each log has a
+/// cause.
 ///
 /// `TwoLogs` if two logs are of one node, whatever memory there is. `TooManyRouters` if one is of a
 /// router that no world can have. `NoMemory` if an allocation fails.
@@ -86,9 +89,15 @@ pub fn judge(alloc: Global, old: &Plan, new: &Plan, logs: &[Log]) -> Result<Judg
     are_apart(logs)?;
     let routers = routers_of(logs)?;
     let limits = lengths_of(alloc, logs)?;
-    let taken = merged(alloc, old, new, routers, logs, limits)?;
-    if are_all(logs, &taken) {
+    let ended = merged(alloc, old, new, routers, logs, limits)?;
+    if are_all(logs, &ended.0.taken) {
         return Ok(Judgment::Accepted);
     }
-    Ok(Judgment::Refused(taken))
+    let Ok(causes) = causes_of(alloc, &ended.0, logs, &ended.1) else {
+        return Err(JudgeFault::NoMemory);
+    };
+    Ok(Judgment::Refused {
+        taken: ended.0.taken,
+        causes,
+    })
 }

@@ -8,7 +8,7 @@
 //! - `Accepted`: there is a run in which each node did exactly what its log says. So all that is proved
 //!   of runs holds of what happened ([`promises`](squall_protocol::promises)).
 //! - `Refused`: so many first entries of each log are in a run, and no run has more of any log. No
-//!   choice that the judge made matters (`squall_audit`).
+//!   choice that the judge made matters (`squall_audit`). Each log with entries left has a [`Cause`].
 //!
 //! # Example
 //!
@@ -21,7 +21,7 @@
 //!     let router = log(alloc, Node::Router(0), [heard])?;
 //!     let leader = log(alloc, Node::Leader, [])?;
 //!     match judge(alloc, old, new, &[router, leader]) {
-//!         Ok(Judgment::Refused(taken)) => Some(taken.as_slice() == [0, 0].as_slice()),
+//!         Ok(Judgment::Refused { taken, .. }) => Some(taken.as_slice() == [0, 0].as_slice()),
 //!         Ok(Judgment::Accepted) | Err(_) => Some(false),
 //!     }
 //! }
@@ -36,6 +36,7 @@
 //! Its tests are in `crates/squall_test_audit`.
 #![tactic(auto)]
 
+mod causes;
 mod content;
 mod given;
 mod heads;
@@ -49,5 +50,5 @@ mod stage;
 mod turn;
 
 pub use judging::judge;
-pub use judgment::{JudgeFault, Judgment};
+pub use judgment::{Cause, JudgeFault, Judgment};
 pub use log::{Entry, Log};

@@ -35,7 +35,7 @@ pub(crate) struct Stage {
 }
 
 /// Whether the node is there. One that is not refuses each question as `NoSuch`.
-fn is_there(world: &World, node: &Node) -> bool
+pub(crate) fn is_there(world: &World, node: &Node) -> bool
     ensures { result ≡ is_node (view world.now) node.now }
 {
     let key = Key::of_rank(0).unwrap();

@@ -13,7 +13,7 @@ fn hearsay(alloc: Global, old: &Plan, new: &Plan) -> Option<bool> {
     let router = log(alloc, Node::Router(0), [heard])?;
     let leader = log(alloc, Node::Leader, [])?;
     match judge(alloc, old, new, &[router, leader]) {
-        Ok(Judgment::Refused(taken)) => Some(taken.as_slice() == [0, 0].as_slice()),
+        Ok(Judgment::Refused { taken, .. }) => Some(taken.as_slice() == [0, 0].as_slice()),
         Ok(Judgment::Accepted) | Err(_) => Some(false),
     }
 }

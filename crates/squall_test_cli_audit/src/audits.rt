@@ -21,7 +21,7 @@ const OLDER: (&str, &str) = (
 #[test]
 fn each_log_that_stops_is_named(rt: HostRuntime) {
     let logs = [LEADER, FIRST, OLDER, FOURTH, ROUTER];
-    let wanted = "refused l 3\nrefused p4 3\nrefused r0 5\n";
+    let wanted = "refused l 3 NotReported\nrefused p4 3 NotGiven\nrefused r0 5 NotReported\n";
     holds!(&rt; shows(rt.alloc(), &logs, Ended::Refused, wanted) == Some(true));
 }
 
@@ -34,7 +34,7 @@ const TWICE: (&str, &str) = (
 #[test]
 fn a_second_load_is_not_new(rt: HostRuntime) {
     let logs = [LEADER, FIRST, THIRD, TWICE];
-    holds!(&rt; shows(rt.alloc(), &logs, Ended::Refused, "refused l 4\nrefused p4 4\n") == Some(true));
+    holds!(&rt; shows(rt.alloc(), &logs, Ended::Refused, "refused l 4 NotReported\nrefused p4 4 Answer\n") == Some(true));
 }
 
 /// Partitions give no more, and the leader begins course 2 from the old plan.
@@ -68,7 +68,7 @@ fn a_course_is_begun_early(rt: HostRuntime) {
     let logs = [("l", BEGINS), CLOSED, SHUT, ("r", ISSUED)];
     holds!(&rt; shows(rt.alloc(), &logs, Ended::Fine, "accepted 8 lines of 4 logs\n") == Some(true));
     let open = [("l", BEGINS), CLOSED, ("r", ISSUED)];
-    holds!(&rt; shows(rt.alloc(), &open, Ended::Refused, "refused l 2\nrefused r 2\n") == Some(true));
+    holds!(&rt; shows(rt.alloc(), &open, Ended::Refused, "refused l 2 Running\nrefused r 2 NotReported\n") == Some(true));
 }
 
 #[test]

@@ -2,7 +2,7 @@ use Rattle.std.proofs.Common.{◌≡◌, ◌<◌, ℕ, length, sym, subst, arith
 use Rattle.std.proofs.lemmas.Option.{slice_get_within}
 use Rattle.squall_judge.specs.Merges.{AreLimits, HasRun, IsOver, IsWrong}
 use Rattle.squall_judge.proofs.Nodes.{read_at}
-use Rattle.squall_judge.proofs.Merges.{fresh_ready, cut_first, cut_more, lower, ended}
+use Rattle.squall_judge.proofs.Merges.{fresh_ready, cut_first, cut_more, lower, ended_of}
 use Rattle.squall_judge.proofs.judging.merged.Goals as goal
 
 same_below : (n m i : ℕ) → n ≡ m → i < m → i < n
@@ -46,5 +46,5 @@ pub returns-in_default-wrong-clause-ok : goal.returns-in_default-wrong-clause-ok
 returns-in_default-wrong-clause-ok c =
     let over : IsOver c.args.logs.now c.loop-merge.limits.items c.in-Ok.merge c.run.new.self =
     subst (λ ks. IsOver c.args.logs.now ks c.in-Ok.merge c.run.new.self) c.deref.ensures.value (subst (λ o. HasRun c.args.logs.now c.deref.result.now c.in-Ok.merge o c.run.new.self) c.in_default-wrong.is c.in-Ok-run.ensures) in
-    ended c.args.old.now c.args.new.now c.args.routers c.args.logs.now c.loop-merge.limits.items c.in-Ok.merge c.run.new.self c.in-Ok.ensures over c.loop-merge.invariant c.what_is_left_is_in_no_run.ensures
+    ended_of c.args.old.now c.args.new.now c.args.routers c.args.logs.now c.loop-merge.limits.items c.in-Ok.merge c.run.new.self c.requires.apart c.in-Ok.ensures over c.loop-merge.invariant c.what_is_left_is_in_no_run.ensures
     c.logs_are_judged.ensures.reached
