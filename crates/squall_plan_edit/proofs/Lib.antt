@@ -1,2 +1,5 @@
 pub mod Legs
 pub mod Given
+mod Shares
+mod Even
+mod Led

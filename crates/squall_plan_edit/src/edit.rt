@@ -1,6 +1,6 @@
 //! The plan in which ranges of keys are at other partitions.
 
-ghost use Rattle.std.specs.Prelude.{◌≡◌, ℕ, ◌<◌, ◌≤◌, ◌∷◌, List, length, IfOk, Err};
+ghost use Rattle.std.specs.Prelude.{◌≡◌, ℕ, ◌<◌, ◌≤◌, ◌∷◌, ◌++◌, [], List, length, IfOk, OnOk, Err};
 ghost use Rattle.squall_key.specs.Keys.{top};
 ghost use Rattle.squall_plan.specs.declared.range.PlanRange.{PlanRange};
 ghost use Rattle.squall_plan.specs.Ranges.{IsCanonical, AreRanges, owner_of};
@@ -83,6 +83,26 @@ fn reaching(range: PlanRange, hi: Bound) -> PlanRange
     }
 }
 
+/// Adds a leg behind a run of keys of one partition, which follows all other legs. The run takes it up
+/// if it has the same partition. Else the run is done, and the leg begins the next one.
+pub(crate) fn follow(
+    legs: &mut Vec<PlanRange>,
+    run: &mut PlanRange,
+    leg: PlanRange,
+) -> Result<(), AllocError>
+    requires { run.old.span.lo < leg.span.hi }
+    ensures { OnOk result ((f : ℕ → ℕ) → AreLegs f 0 run.old.span.hi (legs.old.items ++ run.old ∷ []) → IsLeg f run.old.span.hi leg
+        → (run.new.span.hi ≡ leg.span.hi) × AreLegs f 0 run.new.span.hi (legs.new.items ++ run.new ∷ [])) }
+{
+    if leg.part == run.part {
+        *run = reaching(*run, leg.span.hi());
+        return Ok(());
+    }
+    legs.push(*run)?;
+    *run = leg;
+    Ok(())
+}
+
 /// The ranges by rising key, neighbours of different partitions, that have each key at its partition
 /// once the ranges are given away.
 fn legs(alloc: Global, old: &Plan, given: &[PlanRange]) -> Result<Vec<PlanRange>, AllocError>
@@ -92,19 +112,14 @@ fn legs(alloc: Global, old: &Plan, given: &[PlanRange]) -> Result<Vec<PlanRange>
     let mut run = leg_at(old, given, Bound::of_rank(0).unwrap_or(Bound::TOP));
     while run.span.hi() < Bound::TOP {
         let leg = leg_at(old, given, run.span.hi());
-        if leg.part == run.part {
-            run = reaching(run, leg.span.hi());
-        } else {
-            legs.push(run)?;
-            run = leg;
-        }
+        follow(&mut legs, &mut run, leg)?;
     }
     legs.push(run)?;
     Ok(legs)
 }
 
 /// The plan of ranges that are its canonical list, unless they are too many.
-fn plan_of(alloc: Global, ranges: &[PlanRange]) -> Result<Plan, EditFault>
+pub(crate) fn plan_of(alloc: Global, ranges: &[PlanRange]) -> Result<Plan, EditFault>
     requires canonical { IsCanonical ranges.now }
     requires ranges { AreRanges ranges.now }
     ensures ok { IfOk result (λ plan. plan ≡ ranges.now) }

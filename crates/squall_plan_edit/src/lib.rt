@@ -20,9 +20,13 @@
 //! Its tests are in `crates/squall_test_plans/src/edit.rt`.
 #![tactic(auto)]
 
+mod apart;
 mod edit;
 mod fault;
 pub mod laws;
+mod share;
 
+pub use apart::ranges_apart;
 pub use edit::{moved, moved_in_turn};
 pub use fault::EditFault;
+pub use share::{shares_below, split};

@@ -1,10 +1,10 @@
-//! Plans in which keys go to other partitions.
+//! Plans in which keys go to other partitions, and plans in which partitions share keys.
 
 mod example;
 
-use squall_key::PartId;
+use squall_key::{Bound, PartId};
 use squall_plan::{Plan, PlanRange};
-use squall_plan_edit::{EditFault, moved, moved_in_turn};
+use squall_plan_edit::{EditFault, moved, moved_in_turn, shares_below, split};
 use squall_test_example::{OLD, holds, plan, span};
 use std::alloc::{AllocError, Global};
 use std::process::Abort;
@@ -97,4 +97,62 @@ fn tolerant_moved(rt: HostRuntime) {
 #[test]
 fn tolerant_moved_in_turn(rt: HostRuntime) {
     let _moved = try_row(&rt, rt.alloc(), &ROWS[3]);
+}
+
+/// A bound, how many partitions can share what is below it, partitions, and the plan in which they do.
+type Shared = (&'static str, u64, &'static [u32], &'static str);
+
+static SHARED: [Shared; 6] = [
+    ("6:0", 6, &[7], "7 [0:0,end) "),
+    ("7:0", 7, &[1, 2, 3], "1 [0:0,3:0) 2 [3:0,5:0) 3 [5:0,end) "),
+    // A share of one root each, and neighbours that are one partition.
+    ("3:0", 3, &[4, 4, 5], "4 [0:0,2:0) 5 [2:0,end) "),
+    // Roots are parted if the bound is within one.
+    ("0:5", 5, &[2, 1], "2 [0:0,0:3) 1 [0:3,end) "),
+    (
+        "1:1",
+        4294967297,
+        &[1, 2],
+        "1 [0:0,0:2147483649) 2 [0:2147483649,end) ",
+    ),
+    (
+        "end",
+        4294967295,
+        &[1, 2],
+        "1 [0:0,2147483648:0) 2 [2147483648:0,end) ",
+    ),
+];
+
+/// The partitions of the numbers. None if an allocation fails.
+fn parts(alloc: Global, numbers: &[u32]) -> Option<Vec<PartId>> {
+    let mut parts = Vec::new(alloc);
+    for number in numbers {
+        parts.push(PartId::new(*number)?).ok()?;
+    }
+    Some(parts)
+}
+
+/// Whether partitions share keys as the row says. None if an allocation fails.
+fn try_shared(rt: &impl Abort, alloc: Global, row: &Shared) -> Option<bool> {
+    let below = Bound::read(row.0)?;
+    let parts = parts(alloc, row.2)?;
+    if shares_below(below) != row.1 || parts.is_empty() || parts.len() as u64 > row.1 {
+        return Some(false);
+    }
+    let new = made(rt, split(alloc, below, &parts))?;
+    let mut found = String::new(alloc);
+    write_plan(&new, &mut found).ok()?;
+    Some(found.as_str() == row.3)
+}
+
+#[test]
+fn keys_are_shared(rt: HostRuntime) {
+    for row in &SHARED {
+        holds!(&rt; try_shared(&rt, rt.alloc(), row) == Some(true));
+    }
+}
+
+#[test]
+fn tolerant_split(rt: HostRuntime) {
+    let _shared = try_shared(&rt, rt.alloc(), &SHARED[1]);
 }
