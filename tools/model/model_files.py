@@ -179,10 +179,11 @@ def watch(draw):
 
 
 def route(draw):
-    """Routes of keys, few of which are none."""
+    """Routes of keys, few of which are none, or of rows by their names."""
     drawn = Drawn(draw)
     words = [*drawn.plans(), *(drawn.bound(20) for _ in range(draw.randint(1, 12)))]
-    return drawn.trial("route", drawn.optional(words, *drawn.boards()))
+    named = [] if draw.randrange(3) else [["--name"]]
+    return drawn.trial("route", drawn.optional(words, *drawn.boards(), *named))
 
 
 def legs(draw):
@@ -236,6 +237,23 @@ def made(draw):
     if len(words) > 4 and not draw.randrange(5):
         del words[-draw.randint(1, 2):]
     return drawn.trial("plan", words)
+
+
+def shared(draw):
+    """A plan in which partitions share keys. One in so many words is none, and so many partitions are too many."""
+    drawn = Drawn(draw)
+    below = draw.choice([drawn.bound(12), "40:0", "480:0", "0:7", "0:4000", "end"])
+    runs = [f"{it}-{it + draw.randrange(4)}" for it in (draw.randrange(40) for _ in range(4))]
+    bad = [*WORDS, "3-1", "1-", "-", "1-2-3", "9999-10000"]
+    words = [draw.choice(runs + ["7", "0", "9999"] if draw.randrange(9) else bad) for _ in range(draw.randint(1, 6))]
+    return drawn.trial("split", [below, *(it for it in words if not it.startswith("-")), "1"])
+
+
+def diff(draw):
+    """The words by which one plan is made of another."""
+    drawn = Drawn(draw)
+    words = drawn.plans()
+    return drawn.trial("diff", words if draw.randrange(6) else words[:1] * 2)
 
 
 def key(draw):

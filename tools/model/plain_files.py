@@ -6,8 +6,8 @@ from plain_frames import MOST, TOP, Fault, decoded, digest_frame
 from plain_json import object_of
 from plain_keys import key_of
 
-# They write frames or a plan, so that their refusals go to standard error.
-WRITE_BYTES = ("report", "merge", "beyond", "digest", "repair", "plan")
+# They write frames, a plan or words of one, so that their refusals go to standard error.
+WRITE_BYTES = ("report", "merge", "beyond", "digest", "repair", "plan", "split", "diff")
 INPUT_TAKEN = "squall: standard input is read as it comes, so that no file can be -"
 
 
@@ -107,15 +107,16 @@ def routed(words, files, boards):
     return board.newest(first), board
 
 
-def route(words, files, boards):
+def route(words, files, boards, flags):
+    """The partition to ask for each key, or for each row by its name."""
     change, board = routed(words, files, boards)
     legs_of_all, shown = board.legs(change), []
     for word in words[2:]:
-        rank = rank_of(word)
+        rank = key_of(word.encode()) if "--name" in flags else rank_of(word)
         if rank in (None, TOP):
             raise Refused("\n".join([*shown, f"refused {word} NoKey"]))
         part = next(part for lo, hi, part in legs_of_all if lo <= rank < hi)
-        shown.append(f"route {bound(rank)} {part}")
+        shown.append(f"route {word if '--name' in flags else bound(rank)} {part}")
     return shown
 
 
@@ -213,6 +214,16 @@ def given(words):
     return spans
 
 
+def plan_text(ranges):
+    """The text of the plan of the ranges."""
+    ranges = joined(ranges)
+    if len(ranges) > 4096:
+        raise Refused("refused plan Many")
+    pair = lambda rank: list(divmod(rank, HALF))
+    shown = [{"from": pair(lo), "part": part, "to": "end" if hi == TOP else pair(hi)} for lo, hi, part in ranges]
+    return [json.dumps({"plan": shown}, separators=(",", ":"))]
+
+
 def plan(words, files):
     """The text of the plan of the first word with the keys of spans at other partitions."""
     ends = files.plan("old", words[0])
@@ -220,12 +231,39 @@ def plan(words, files):
     cuts = sorted({0, *(end for end, _ in ends), *(it for lo, hi, _ in spans for it in (lo, hi))})
     owner = lambda key: next((part for lo, hi, part in reversed(spans) if lo <= key < hi), None)
     old = lambda key: next(part for end, part in ends if key < end)
-    ranges = joined((lo, hi, old(lo) if owner(lo) is None else owner(lo)) for lo, hi in zip(cuts, cuts[1:]))
-    if len(ranges) > 4096:
-        raise Refused("refused plan Many")
-    pair = lambda rank: list(divmod(rank, HALF))
-    shown = [{"from": pair(lo), "part": part, "to": "end" if hi == TOP else pair(hi)} for lo, hi, part in ranges]
-    return [json.dumps({"plan": shown}, separators=(",", ":"))]
+    return plan_text((lo, hi, old(lo) if owner(lo) is None else owner(lo)) for lo, hi in zip(cuts, cuts[1:]))
+
+
+def parts_of(words):
+    """The partitions that words write, a number or a run each."""
+    parts = []
+    for word in words:
+        low, hyphen, high = word.partition("-")
+        low, high = number_of(low), number_of(high if hyphen else low)
+        if None in (low, high) or not low <= high <= 9999:
+            raise Refused(f"refused {word} NoPart")
+        parts += range(low, high + 1)
+    return parts
+
+
+def split(words):
+    """The text of the plan in which partitions share the keys below a bound."""
+    below = rank_of(words[0])
+    if below is None:
+        raise Refused(f"refused {words[0]} NoBound")
+    parts = parts_of(words[1:])
+    unit = 1 if below % HALF else HALF
+    units = below // unit
+    if units < len(parts):
+        raise Refused("refused plan Few")
+    starts = [-(-at * units // len(parts)) * unit for at in range(len(parts))]
+    return plan_text(zip(starts, [*starts[1:], TOP], parts))
+
+
+def diff(words, files):
+    """The words by which the plan of the second file is made of that of the first."""
+    change = Change(1, files.plan("old", words[0]), files.plan("new", words[1]))
+    return [f"{bound(lo)} {bound(hi)} {part}" for lo, hi, (_, part, _) in change.moves]
 
 
 def key(words):
@@ -263,13 +301,15 @@ def found(command, words, files, boards, flags):
         "board": lambda: files.board(*words).lines(),
         "status": lambda: status(words, files, boards, flags),
         "watch": lambda: watch(words, files, flags),
-        "route": lambda: route(words, files, boards),
+        "route": lambda: route(words, files, boards, flags),
         "legs": lambda: legs(words, files, boards),
         "merge": lambda: files.board(*words).pieces(),
         "beyond": lambda: beyond(words, files),
         "digest": lambda: digest(words, files),
         "repair": lambda: repair(words, files),
         "plan": lambda: plan(words, files),
+        "split": lambda: split(words),
+        "diff": lambda: diff(words, files),
         "key": lambda: key(words),
     }[command]()
 

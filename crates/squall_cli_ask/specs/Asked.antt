@@ -22,6 +22,7 @@ can_be (inquiry.Board form) words = true
 can_be (inquiry.Status how) words = true
 can_be inquiry.Picture words = true
 can_be inquiry.Routes words = true
+can_be inquiry.NamedRoutes words = true
 can_be (inquiry.Legs form) words = true
 can_be inquiry.Merge words = true
 can_be inquiry.Beyond words = true
@@ -29,6 +30,8 @@ can_be inquiry.Cover words = true
 can_be inquiry.Digest words = true
 can_be inquiry.Repair words = true
 can_be inquiry.Plan words = true
+can_be inquiry.Split words = true
+can_be inquiry.Diff words = true
 can_be inquiry.Names words = true
 can_be inquiry.Audit words = true
 
@@ -39,6 +42,7 @@ files_of (inquiry.Board form) words files = files
 files_of (inquiry.Status how) words files = files
 files_of inquiry.Picture words files = files
 files_of inquiry.Routes words files = files
+files_of inquiry.NamedRoutes words files = files
 files_of (inquiry.Legs form) words files = files
 files_of inquiry.Merge words files = files
 files_of inquiry.Beyond words files = files
@@ -46,6 +50,8 @@ files_of inquiry.Cover words files = files
 files_of inquiry.Digest words files = files
 files_of inquiry.Repair words files = files
 files_of inquiry.Plan words files = files
+files_of inquiry.Split words files = files
+files_of inquiry.Diff words files = files
 files_of inquiry.Names words files = files
 files_of inquiry.Audit words files = files
 
@@ -58,13 +64,14 @@ files_asked asked = files_of asked.inquiry (words_asked asked) (map string_bytes
 
 -- ---- what is written
 
--- the command writes frames, a picture or a plan, so that its refusals go to standard error, where no reader takes them for these
+-- the command writes frames, a picture, a plan or words of one, so that its refusals go to standard error, where no reader takes them for these
 abbrev pub refuses_aside : Inquiry → Bool
 refuses_aside inquiry.Report = true
 refuses_aside (inquiry.Board form) = false
 refuses_aside (inquiry.Status how) = false
 refuses_aside inquiry.Picture = true
 refuses_aside inquiry.Routes = false
+refuses_aside inquiry.NamedRoutes = false
 refuses_aside (inquiry.Legs form) = false
 refuses_aside inquiry.Merge = true
 refuses_aside inquiry.Beyond = true
@@ -72,6 +79,8 @@ refuses_aside inquiry.Cover = true
 refuses_aside inquiry.Digest = true
 refuses_aside inquiry.Repair = true
 refuses_aside inquiry.Plan = true
+refuses_aside inquiry.Split = true
+refuses_aside inquiry.Diff = true
 refuses_aside inquiry.Names = false
 refuses_aside inquiry.Audit = false
 
@@ -90,6 +99,7 @@ is_judged (inquiry.Board form) = false
 is_judged (inquiry.Status how) = how.is_judged
 is_judged inquiry.Picture = false
 is_judged inquiry.Routes = false
+is_judged inquiry.NamedRoutes = false
 is_judged (inquiry.Legs form) = false
 is_judged inquiry.Merge = false
 is_judged inquiry.Beyond = false
@@ -97,6 +107,8 @@ is_judged inquiry.Cover = false
 is_judged inquiry.Digest = false
 is_judged inquiry.Repair = false
 is_judged inquiry.Plan = false
+is_judged inquiry.Split = false
+is_judged inquiry.Diff = false
 is_judged inquiry.Names = false
 is_judged inquiry.Audit = false
 

@@ -16,14 +16,16 @@ use squall_cli_device::{DeviceFault, Sink};
 use squall_cli_lines::{RunFault, send};
 use std::alloc::Global;
 
-/// Whether refusals go to standard error: those of a command that writes frames, a picture or a plan.
+/// Whether refusals go to standard error: those of a command that writes frames, a picture, a plan or
+/// words of one.
 fn refuses_aside(inquiry: Inquiry) -> bool
     ensures { result ≡ refuses_aside inquiry }
 {
     match inquiry {
         Inquiry::Board(_) | Inquiry::Status(_) | Inquiry::Routes | Inquiry::Legs(_) => false,
-        Inquiry::Names | Inquiry::Audit => false,
-        Inquiry::Report | Inquiry::Picture | Inquiry::Merge | Inquiry::Plan => true,
+        Inquiry::NamedRoutes | Inquiry::Names | Inquiry::Audit => false,
+        Inquiry::Report | Inquiry::Picture | Inquiry::Merge => true,
+        Inquiry::Plan | Inquiry::Split | Inquiry::Diff => true,
         Inquiry::Beyond | Inquiry::Cover | Inquiry::Digest | Inquiry::Repair => true,
     }
 }
@@ -98,7 +100,8 @@ fn send_answer<O: Sink, E: Console>(
 }
 
 /// Writes the answer to what is asked of the files, and gives the status. A refusal goes to `err`,
-/// after the program's name, if the command writes frames, a picture or a plan. All else goes to `out`.
+/// after the program's name, if the command writes frames, a picture, a plan or words of one. All else
+/// goes to `out`.
 ///
 /// - 0: the answer is written.
 /// - 1: the answer is written, and it refuses what was given.

@@ -56,8 +56,8 @@ fn files_of(ask: &Ask) -> &[String]
 /// gives to its end. If it is named again, it is empty.
 ///
 /// - 0: the answer is written.
-/// - 1: the answer refuses what was given. It goes to `err` if the command writes frames, a picture or
-///   a plan, and then nothing is written to `out`.
+/// - 1: the answer refuses what was given. It goes to `err` if the command writes frames, a picture, a
+///   plan or words of one, and then nothing is written to `out`.
 /// - 2: the words are no report. Nothing is read or written, and `err` says which word is at fault.
 /// - 3: a file can't be opened, a read failed or found no end, or a write failed or took nothing.
 /// - 4: an allocation failed.

@@ -17,7 +17,7 @@ use Rattle.squall_cli_json.specs.Values.{json_line, json_of_status}
 use Rattle.squall_cli_boards.specs.Files.{FileValue}
 use Rattle.squall_cli_boards.specs.Answers.{AnswerValue, answer_of, answer_with}
 use Rattle.squall_cli_boards.specs.Known.{KnownValue, newest_of}
-use Rattle.squall_cli_boards.specs.Routes.{routes_answer, legs_answer, span_asked}
+use Rattle.squall_cli_boards.specs.Routes.{routes_answer, named_routes_answer, legs_answer, span_asked}
 
 -- how far a course has come, as lines or as JSON
 abbrev pub status_in : Form → Shown → StatusValue → List ℕ
@@ -43,6 +43,10 @@ ShowsPicture c b a = (text : List ℕ) × IsPictureOf c (says b) text × (a ≡ 
 -- `route`: the partition to ask for each of the keys that the words write
 abbrev pub ShowsRoutes : List (List ℕ) → Change → BoardValue → AnswerValue → Type 0
 ShowsRoutes words c b a = a ≡ routes_answer (route c (says b)) words
+
+-- `route --name`: the partition to ask for each of the rows that have the words as names
+abbrev pub ShowsNamedRoutes : List (List ℕ) → Change → BoardValue → AnswerValue → Type 0
+ShowsNamedRoutes words c b a = a ≡ named_routes_answer (route c (says b)) words
 
 -- `legs`: the legs of the span that the words write, or of all keys
 abbrev pub ShowsLegs : Form → List (List ℕ) → Change → BoardValue → AnswerValue → Type 0

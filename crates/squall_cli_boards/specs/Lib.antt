@@ -8,6 +8,8 @@ pub use Rattle.squall_plan.specs.Form
 pub use Rattle.squall_plan.specs.Faults
 pub use Rattle.squall_plan.specs.PlanText
 pub use Rattle.squall_plan_edit.specs.Moved
+pub use Rattle.squall_plan_edit.specs.Apart
+pub use Rattle.squall_plan_edit.specs.Shares
 pub use Rattle.squall_keymap.specs.KeyMap
 pub use Rattle.squall_course.specs.Change
 pub use Rattle.squall_status.specs.Summary
@@ -36,5 +38,6 @@ pub mod Joined
 pub mod Plans
 pub mod PlansLaws
 pub mod Planned
+pub mod Shared
 pub mod ReportWords
 pub mod Inquiries

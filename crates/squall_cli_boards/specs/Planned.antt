@@ -1,10 +1,11 @@
 -- What is answered of a plan with keys at other partitions, and of names of rows (this project's command line).
 use Rattle.std.specs.Prelude.{◌≡◌, ◌⊎◌, ℕ, ◌<◌, List, [], ◌∷◌, ◌++◌, length, nat_lt, false, Vec, Option, None, Some, Result, Ok, Err, codes, if◌then◌else◌}
 use Rattle.std.specs.List.{flat_map}
+use Rattle.std.specs.Fmt.{decimal}
 use Rattle.std.specs.Global.{Global}
 use Rattle.std.specs.Option.{option_and_then}
 use Rattle.squall_key.specs.Numbers.{number_of}
-use Rattle.squall_key.specs.Keys.{part_limit, text_of_key}
+use Rattle.squall_key.specs.Keys.{part_limit, text_of_bound, text_of_key}
 use Rattle.squall_keymap.specs.KeyMap.{key_of_bytes}
 use Rattle.squall_span.specs.Spans.{Interval}
 use Rattle.squall_plan.specs.declared.range.PlanRange.{PlanRange}
@@ -13,6 +14,7 @@ use Rattle.squall_plan.specs.Arranged.{range_limit}
 use Rattle.squall_plan.specs.Form.{plan_of_text}
 use Rattle.squall_plan.specs.PlanText.{text_of_plan}
 use Rattle.squall_plan_edit.specs.Moved.{owner_after, HasOwners}
+use Rattle.squall_plan_edit.specs.Apart.{apart}
 use Rattle.squall_cli_command.specs.declared.form.Form.TheVariants.{Lines}
 use Rattle.squall_cli_boards.specs.declared.words.BadWord.{BadWord}
 use Rattle.squall_cli_boards.specs.declared.words.WordFault.TheVariants.{NoPart}
@@ -41,8 +43,8 @@ piece_of (Err bad) part = Err bad
 abbrev pub piece_in : List ℕ → List ℕ → List ℕ → Result PlanRange BadValue
 piece_in from to part = piece_of (span_in from to) (part_in part)
 
--- ranges behind others, or why a word is refused
-abbrev pub after_parts : List PlanRange → Result (List PlanRange) BadValue → Result (List PlanRange) BadValue
+-- values behind others, or why a word is refused
+abbrev pub after_parts : {X : Type 0} → List X → Result (List X) BadValue → Result (List X) BadValue
 after_parts before (Ok parts) = Ok (before ++ parts)
 after_parts before (Err bad) = Err bad
 
@@ -58,8 +60,8 @@ parts_of_words (from ∷ to ∷ part ∷ words) = piece_first (piece_in from to 
 parts_of_words (from ∷ to ∷ []) = Err (bad_words (from ∷ to ∷ []) NoPart)
 parts_of_words (from ∷ []) = Err (bad_words (from ∷ []) NoPart)
 
--- ranges, or why words are refused, without where the words lie in memory
-abbrev pub parts_seen : Result (Vec PlanRange Global) BadWord → Result (List PlanRange) BadValue
+-- values, or why words are refused, without where the words lie in memory
+abbrev pub parts_seen : {X : Type 0} → Result (Vec X Global) BadWord → Result (List X) BadValue
 parts_seen (Ok parts) = Ok parts.items
 parts_seen (Err b) = Err (bad_seen b)
 
@@ -69,11 +71,15 @@ parts_seen (Err b) = Err (bad_seen b)
 abbrev pub plan_answer : List PlanRange → AnswerValue
 plan_answer plan = answer_with (text_of_plan plan ++ codes "\n") false
 
--- the plan in which ranges are given away, from the first to the last; or that it would have too many ranges
+-- the plan that has each key at the partition that the function says; or that it would have too many ranges
+abbrev pub ShowsOwners : (ℕ → ℕ) → AnswerValue → Type 0
+ShowsOwners to_part a =
+    ((plan : List PlanRange) × HasOwners to_part plan × (a ≡ plan_answer plan))
+    ⊎ ((a ≡ refusing (codes "refused plan Many\n")) × ((plan : List PlanRange) → HasOwners to_part plan → range_limit < length plan))
+
+-- the plan in which ranges are given away, from the first to the last
 abbrev pub ShowsPlan : List PlanRange → List PlanRange → AnswerValue → Type 0
-ShowsPlan old given a =
-    ((plan : List PlanRange) × HasOwners (owner_after given old) plan × (a ≡ plan_answer plan))
-    ⊎ ((a ≡ refusing (codes "refused plan Many\n")) × ((plan : List PlanRange) → HasOwners (owner_after given old) plan → range_limit < length plan))
+ShowsPlan old given a = ShowsOwners (owner_after given old) a
 
 -- the plan in which the ranges of the words are given away, or what refuses a word
 abbrev pub AnswersParts : List PlanRange → Result (List PlanRange) BadValue → AnswerValue → Type 0
@@ -88,6 +94,20 @@ AnswersOld (Err fault) parts a = a ≡ refusing_plan Lines (codes "old") fault
 -- the same of the first file
 abbrev pub AnswersPlan : List (List ℕ) → List FileValue → AnswerValue → Type 0
 AnswersPlan words files a = AnswersOld (plan_of_text (bytes_at files 0)) (parts_of_words words) a
+
+-- ---- `diff`
+
+-- the keys of a range and their partition, as words of `plan`
+abbrev pub range_words : PlanRange → List ℕ
+range_words r = text_of_bound r.span.lo ++ (codes " " ++ (text_of_bound r.span.hi ++ (codes " " ++ (decimal r.part ++ codes "\n"))))
+
+-- the same of ranges, a line each
+abbrev pub range_lines : List PlanRange → List ℕ
+range_lines rs = flat_map range_words rs
+
+-- the ranges of keys that go to other partitions between two plans, as words of `plan`
+abbrev pub ShowsApart : List PlanRange → List PlanRange → AnswerValue → Type 0
+ShowsApart old new a = a ≡ answer_with (range_lines (apart old new)) false
 
 -- ---- `key`
 

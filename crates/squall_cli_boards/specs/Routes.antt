@@ -1,6 +1,9 @@
 -- What is answered of routes and legs (this project's command line).
-use Rattle.std.specs.Prelude.{ℕ, List, [], ◌∷◌, ◌++◌, false, Result, Ok, Err}
+use Rattle.std.specs.Prelude.{ℕ, List, [], ◌∷◌, ◌++◌, false, Result, Ok, Err, codes}
+use Rattle.std.specs.List.{flat_map}
+use Rattle.std.specs.Fmt.{decimal}
 use Rattle.squall_key.specs.Keys.{top}
+use Rattle.squall_keymap.specs.KeyMap.{key_of_bytes}
 use Rattle.squall_span.specs.Spans.{Interval, interval}
 use Rattle.squall_table.specs.Tables.{legs_between}
 use Rattle.squall_cli_words.specs.RouteText.{route_text, leg_lines}
@@ -27,6 +30,23 @@ key_answer to_part (Err bad) rest = refusing_words Lines bad
 abbrev pub routes_answer : (ℕ → ℕ) → List (List ℕ) → AnswerValue
 routes_answer to_part [] = answer_with [] false
 routes_answer to_part (word ∷ words) = key_answer to_part (key_in word) (routes_answer to_part words)
+
+-- ---- routes of rows
+
+-- the line of a row by its name, and the partition to ask for it
+abbrev pub named_text : List ℕ → ℕ → List ℕ
+named_text name part = codes "route " ++ (name ++ (codes " " ++ (decimal part ++ codes "\n")))
+
+-- the same if the partition is that of its key
+abbrev pub named_line : (ℕ → ℕ) → List ℕ → List ℕ
+named_line to_part name = named_text name (to_part (key_of_bytes name))
+
+abbrev pub named_lines : (ℕ → ℕ) → List (List ℕ) → List ℕ
+named_lines to_part names = flat_map (named_line to_part) names
+
+-- the same for each row, in the order of the names
+abbrev pub named_routes_answer : (ℕ → ℕ) → List (List ℕ) → AnswerValue
+named_routes_answer to_part names = answer_with (named_lines to_part names) false
 
 -- ---- legs
 

@@ -1,13 +1,14 @@
 //! What is asked of the newest course of two plans and of board files.
 
 ghost use Rattle.std.specs.Prelude.{◌≡◌, IfOk, map, string_bytes};
-ghost use Rattle.squall_cli_boards.specs.Courses.{status_in, all_complete, shown_as, ShowsStatus, ShowsPicture, ShowsRoutes, ShowsLegs, AnswersNewest};
+ghost use Rattle.squall_cli_boards.specs.Courses.{status_in, all_complete, shown_as, ShowsStatus, ShowsPicture, ShowsRoutes};
+ghost use Rattle.squall_cli_boards.specs.Courses.{ShowsNamedRoutes, ShowsLegs, AnswersNewest};
 ghost use Rattle.squall_cli_command.specs.declared.form.Form.TheVariants.{Lines};
 
 use crate::answer::Answer;
 use crate::file::NamedFile;
 use crate::known::{Known, newest_of};
-use crate::routes::{shown_legs, shown_routes};
+use crate::routes::{shown_legs, shown_named_routes, shown_routes};
 use squall_cli_command::{Form, StatusAsk};
 use squall_cli_json::status_json;
 use squall_picture::picture;
@@ -111,6 +112,21 @@ pub(crate) fn routes_answer(
 {
     match newest_of(alloc, Form::Lines, files)? {
         Ok(known) => shown_routes(alloc, words, &known.course, &known.board),
+        Err(answer) => Ok(answer),
+    }
+}
+
+/// The partition to ask for each of the rows that have the words as names, by the newest course of the
+/// files.
+pub(crate) fn named_routes_answer(
+    alloc: Global,
+    words: &[String],
+    files: &[NamedFile],
+) -> Result<Answer, AllocError>
+    ensures { IfOk result (λ a. AnswersNewest Lines (ShowsNamedRoutes (map string_bytes words.now)) files.now a) }
+{
+    match newest_of(alloc, Form::Lines, files)? {
+        Ok(known) => shown_named_routes(alloc, words, &known.course, &known.board),
         Err(answer) => Ok(answer),
     }
 }

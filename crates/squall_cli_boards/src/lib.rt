@@ -21,6 +21,7 @@ mod plans;
 mod refusals;
 mod report_words;
 mod routes;
+mod shared;
 mod words;
 
 pub use answer::Answer;

@@ -1,13 +1,16 @@
-//! A plan with keys at other partitions, and the keys of rows.
+//! A plan with keys at other partitions, what leads from one plan to another, and the keys of rows.
 
 ghost use Rattle.std.specs.Prelude.{◌≡◌, ◌++◌, IfOk, OnOk, map, string_bytes};
 ghost use Rattle.squall_cli_boards.specs.BadWords.{word_seen};
 ghost use Rattle.squall_cli_boards.specs.Planned.{part_of_word, part_in, piece_in, parts_of_words, parts_seen};
-ghost use Rattle.squall_cli_boards.specs.Planned.{plan_answer, ShowsPlan, AnswersParts, AnswersPlan, key_lines, names_answer};
+ghost use Rattle.squall_cli_boards.specs.Planned.{plan_answer, ShowsPlan, AnswersParts, AnswersPlan};
+ghost use Rattle.squall_cli_boards.specs.Planned.{range_lines, ShowsApart, key_lines, names_answer};
+ghost use Rattle.squall_cli_boards.specs.Answers.{AnswersFirstPlans};
+ghost use Rattle.squall_cli_command.specs.declared.form.Form.TheVariants.{Lines};
 
 use crate::answer::Answer;
 use crate::file::NamedFile;
-use crate::plans::bytes_at;
+use crate::plans::{bytes_at, plans_in};
 use crate::refusals::refused_plan;
 use crate::words::{BadWord, WordFault, span_of_words};
 use squall_cli_command::Form;
@@ -15,7 +18,7 @@ use squall_cli_words::read_plan;
 use squall_key::{PartId, read_number};
 use squall_keymap::key_of;
 use squall_plan::{Plan, PlanRange, plan_text};
-use squall_plan_edit::{EditFault, moved_in_turn};
+use squall_plan_edit::{EditFault, moved_in_turn, ranges_apart};
 use std::alloc::{AllocError, Global};
 
 /// The partition of a number, if there is a number.
@@ -73,7 +76,7 @@ fn parts_of(
 }
 
 /// The text of the plan as a line.
-fn plan_line(alloc: Global, plan: &Plan) -> Result<Answer, AllocError>
+pub(crate) fn plan_line(alloc: Global, plan: &Plan) -> Result<Answer, AllocError>
     ensures { IfOk result (λ a. a ≡ plan_answer plan.now) }
 {
     let mut text = plan_text(alloc, plan)?;
@@ -115,6 +118,40 @@ pub(crate) fn plan_answer(
     match read_plan(alloc, bytes_at(files, 0))? {
         Ok(old) => plan_by_words(alloc, &old, words),
         Err(fault) => refused_plan(alloc, Form::Lines, "old", fault),
+    }
+}
+
+/// Adds the keys of ranges and their partitions, a line each.
+fn add_ranges(ranges: &[PlanRange], text: &mut String) -> Result<(), AllocError>
+    ensures { OnOk result (string_bytes text.new ≡ string_bytes text.old ++ range_lines ranges.now) }
+{
+    for range in ranges {
+        let (lo, hi) = (range.span.lo(), range.span.hi());
+        let part = range.part;
+        write!(text, "{lo} {hi} {part}\n")?;
+    }
+    Ok(())
+}
+
+/// Which keys go to which partition between two plans.
+fn shown_apart(alloc: Global, old: &Plan, new: &Plan) -> Result<Answer, AllocError>
+    ensures { IfOk result (λ a. ShowsApart old.now new.now a) }
+{
+    let ranges = ranges_apart(alloc, old, new)?;
+    let mut text = String::new(alloc);
+    add_ranges(&ranges, &mut text)?;
+    Answer::fine_text(alloc, text.as_str())
+}
+
+/// Which keys go to which partition between the plans of the first two files, a line each, in words
+/// by which one plan is made of the other. A file that is no plan is refused.
+#[tactic(auto, using(crate::specs::PlansLaws::refused_answers))]
+pub(crate) fn diff_answer(alloc: Global, files: &[NamedFile]) -> Result<Answer, AllocError>
+    ensures { IfOk result (λ a. AnswersFirstPlans Lines ShowsApart files.now a) }
+{
+    match plans_in(alloc, Form::Lines, files)? {
+        Ok((old, new)) => shown_apart(alloc, &old, &new),
+        Err(answer) => Ok(answer),
     }
 }
 

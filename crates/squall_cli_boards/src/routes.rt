@@ -1,6 +1,6 @@
 //! Routes and legs of a course, as far as a board tells of it.
 
-ghost use Rattle.std.specs.Prelude.{◌≡◌, ◌∷◌, ℕ, List, true, false, Some, IfOk, map, if◌then◌else◌, string_bytes};
+ghost use Rattle.std.specs.Prelude.{◌≡◌, ◌∷◌, ◌++◌, ℕ, List, true, false, Some, IfOk, OnOk, map, if◌then◌else◌, string_bytes};
 ghost use Rattle.squall_key.specs.Keys.{top};
 ghost use Rattle.squall_span.specs.Spans.{interval};
 ghost use Rattle.squall_board.specs.Boards.{says};
@@ -8,8 +8,8 @@ ghost use Rattle.squall_board.specs.Route.{route};
 ghost use Rattle.squall_table.specs.Tables.{legs_between};
 ghost use Rattle.squall_cli_boards.specs.Answers.{answer_with};
 ghost use Rattle.squall_cli_boards.specs.BadWords.{word_seen};
-ghost use Rattle.squall_cli_boards.specs.Courses.{ShowsRoutes, ShowsLegs};
-ghost use Rattle.squall_cli_boards.specs.Routes.{after_text, routes_answer, legs_in, span_asked};
+ghost use Rattle.squall_cli_boards.specs.Courses.{ShowsRoutes, ShowsNamedRoutes, ShowsLegs};
+ghost use Rattle.squall_cli_boards.specs.Routes.{after_text, routes_answer, named_text, named_line, named_lines, legs_in, span_asked};
 
 use crate::answer::Answer;
 use crate::words::{BadWord, WordFault, key_in, span_of_words};
@@ -18,7 +18,8 @@ use squall_cli_command::Form;
 use squall_cli_json::legs_json;
 use squall_cli_words::{add_legs, add_route};
 use squall_course::Course;
-use squall_key::Bound;
+use squall_key::{Bound, PartId};
+use squall_keymap::key_of;
 use squall_span::Span;
 use squall_table::laws::legs_are_key_by_key;
 use squall_table::{Leg, RouteTable};
@@ -81,6 +82,50 @@ pub(crate) fn shown_routes(
     let mut text = String::new(alloc);
     let refused = add_words(alloc, words, course, board, &mut text)?;
     Answer::of_text(alloc, text.as_str(), refused)
+}
+
+/// Adds the line of a row by its name, and the partition to ask for it.
+fn add_named(name: &str, part: PartId, text: &mut String) -> Result<(), AllocError>
+    ensures { OnOk result (string_bytes text.new ≡ string_bytes text.old ++ named_text name.now part) }
+{
+    write!(text, "route {name} {part}\n")
+}
+
+/// Adds the route of the row that has the name.
+fn add_name(name: &str, course: &Course, board: &Board, text: &mut String) -> Result<(), AllocError>
+    ensures { OnOk result (string_bytes text.new ≡ string_bytes text.old ++ named_line (route course.now (says board.now)) name.now) }
+{
+    let part = board.route(course, key_of(name.as_bytes()));
+    add_named(name, part, text)
+}
+
+/// Adds the routes of the rows that have these names.
+fn add_names(
+    names: &[String],
+    course: &Course,
+    board: &Board,
+    text: &mut String,
+) -> Result<(), AllocError>
+    ensures { OnOk result (string_bytes text.new ≡ string_bytes text.old ++ named_lines (route course.now (says board.now)) (map string_bytes names.now)) }
+{
+    for name in names {
+        add_name(name.as_str(), course, board, text)?;
+    }
+    Ok(())
+}
+
+/// The partition to ask for each of the rows that have these names.
+pub(crate) fn shown_named_routes(
+    alloc: Global,
+    names: &[String],
+    course: &Course,
+    board: &Board,
+) -> Result<Answer, AllocError>
+    ensures { IfOk result (λ a. ShowsNamedRoutes (map string_bytes names.now) course.now board.now a) }
+{
+    let mut text = String::new(alloc);
+    add_names(names, course, board, &mut text)?;
+    Answer::fine_text(alloc, text.as_str())
 }
 
 /// The span of all keys.

@@ -158,7 +158,7 @@ pub(crate) fn key_in(word: &str) -> Result<Key, BadWord<'_>>
 }
 
 /// The bound that the word writes, or why there is none.
-fn bound_in(word: &str) -> Result<Bound, BadWord<'_>>
+pub(crate) fn bound_in(word: &str) -> Result<Bound, BadWord<'_>>
     ensures { word_seen result ≡ bound_in word.entry.now }
 {
     match Bound::read(word) {

@@ -266,4 +266,4 @@ built_side a h words top subs =
 
 pub squall_side : (words : List Text) → IsOneSided (fault_of squall_app words)
 squall_side words = built_side (built squall_app) nothing_held (argument_words squall_app words) refl
-    (refl, (refl, (refl, (refl, (refl, (refl, (refl, (refl, (refl, (refl, (refl, (refl, (refl, (refl, (refl, (refl, (refl, (refl, tt))))))))))))))))))
+    (refl, (refl, (refl, (refl, (refl, (refl, (refl, (refl, (refl, (refl, (refl, (refl, (refl, (refl, (refl, (refl, (refl, (refl, (refl, (refl, tt))))))))))))))))))))

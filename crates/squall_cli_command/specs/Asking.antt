@@ -6,7 +6,7 @@ use Rattle.std.specs.Str.{bytes_eq}
 use Rattle.clap.specs.Words.{App, Shape, Row, Text, new_app, with_rule, first_of, all_of}
 use Rattle.squall_cli_command.specs.declared.inquiry.Inquiry.{Inquiry}
 use Rattle.squall_cli_command.specs.declared.inquiry.StatusAsk.{StatusAsk}
-use Rattle.squall_cli_command.specs.declared.inquiry.Inquiry.TheVariants.{Report, Board, Status, Picture, Routes, Legs, Merge, Beyond, Cover, Digest, Repair, Plan, Names, Audit}
+use Rattle.squall_cli_command.specs.declared.inquiry.Inquiry.TheVariants.{Report, Board, Status, Picture, Routes, NamedRoutes, Legs, Merge, Beyond, Cover, Digest, Repair, Plan, Split, Diff, Names, Audit}
 use Rattle.squall_cli_command.specs.declared.form.Form.{Form}
 use Rattle.squall_cli_command.specs.declared.form.Form.TheVariants.{Lines, Json}
 use Rattle.squall_cli_command.specs.Rules.{file_rule, words_rule, files_rule, option_rule, flag_rule}
@@ -37,7 +37,7 @@ abbrev pub watch_shape : Shape
 watch_shape = (with_rule (with_rule (of_plans (codes "watch")) (flag_rule (codes "json"))) (flag_rule (codes "until-complete"))).top
 
 abbrev pub route_shape : Shape
-route_shape = (with_rule (with_rule (of_plans (codes "route")) (files_rule (codes "KEY"))) (option_rule (codes "board"))).top
+route_shape = (with_rule (with_rule (with_rule (of_plans (codes "route")) (files_rule (codes "KEY"))) (option_rule (codes "board"))) (flag_rule (codes "name"))).top
 
 abbrev pub legs_shape : Shape
 legs_shape = (with_rule (with_rule (with_rule (of_plans (codes "legs")) (files_rule (codes "BOUND"))) (option_rule (codes "board"))) (flag_rule (codes "json"))).top
@@ -60,6 +60,12 @@ of_span = with_rule (with_rule (with_rule (new_app (codes "plan")) (file_rule (c
 
 abbrev pub plan_shape : Shape
 plan_shape = (with_rule of_span (words_rule (codes "PART"))).top
+
+abbrev pub split_shape : Shape
+split_shape = (with_rule (with_rule (new_app (codes "split")) (file_rule (codes "BELOW"))) (words_rule (codes "PART"))).top
+
+abbrev pub diff_shape : Shape
+diff_shape = (of_plans (codes "diff")).top
 
 abbrev pub key_shape : Shape
 key_shape = (with_rule (new_app (codes "key")) (words_rule (codes "NAME"))).top
@@ -85,15 +91,17 @@ status_asked form waiting judged = record { form = form; is_waiting = waiting; i
 abbrev pub status_in : List Row → StatusAsk
 status_in rows = status_asked (form_in rows) (is_set (codes "waiting") rows) (is_set (codes "exit-status") rows)
 
--- what a command's name asks of a plan, of names, or of logs: nothing if it is another command
+-- what a command's name asks of plans, of names, or of logs: nothing if it is another command
 abbrev pub other_in : Text → Option Inquiry
 other_in name =
     if bytes_eq name (codes "plan") then Some Plan
+    else (if bytes_eq name (codes "split") then Some Split
+    else (if bytes_eq name (codes "diff") then Some Diff
     else (if bytes_eq name (codes "key") then Some Names
     else (if bytes_eq name (codes "audit") then Some Audit
-    else None))
+    else None))))
 
--- what a command's name and entries ask of boards as frames, or of a plan, names or logs: nothing if it is another command
+-- what a command's name and entries ask of boards as frames, or of plans, names or logs: nothing if it is another command
 abbrev pub exchange_in : Text → List Row → Option Inquiry
 exchange_in name rows =
     if bytes_eq name (codes "merge") then Some Merge
@@ -109,17 +117,18 @@ inquiry_in name rows =
     else (if bytes_eq name (codes "board") then Some (Board (form_in rows))
     else (if bytes_eq name (codes "status") then Some (Status (status_in rows))
     else (if bytes_eq name (codes "picture") then Some Picture
-    else (if bytes_eq name (codes "route") then Some Routes
+    else (if bytes_eq name (codes "route") then Some (if is_set (codes "name") rows then NamedRoutes else Routes)
     else (if bytes_eq name (codes "legs") then Some (Legs (form_in rows))
     else exchange_in name rows)))))
 
--- the arguments of an inquiry that are no files: the words of a report, keys, bounds, partitions or names
+-- the arguments of an inquiry that are no files: the words of a report, keys, names, bounds or partitions
 abbrev pub word_arguments : Inquiry → List Text
 word_arguments Report = codes "WORD" ∷ []
 word_arguments (Board form) = []
 word_arguments (Status how) = []
 word_arguments Picture = []
 word_arguments Routes = codes "KEY" ∷ []
+word_arguments NamedRoutes = codes "KEY" ∷ []
 word_arguments (Legs form) = codes "BOUND" ∷ []
 word_arguments Merge = []
 word_arguments Beyond = []
@@ -127,6 +136,8 @@ word_arguments Cover = []
 word_arguments Digest = []
 word_arguments Repair = []
 word_arguments Plan = codes "FROM" ∷ codes "TO" ∷ codes "PART" ∷ []
+word_arguments Split = codes "BELOW" ∷ codes "PART" ∷ []
+word_arguments Diff = []
 word_arguments Names = codes "NAME" ∷ []
 word_arguments Audit = []
 
@@ -137,6 +148,7 @@ file_arguments (Board form) = codes "FILE" ∷ []
 file_arguments (Status how) = codes "OLD" ∷ codes "NEW" ∷ codes "FILE" ∷ codes "board" ∷ []
 file_arguments Picture = codes "OLD" ∷ codes "NEW" ∷ codes "FILE" ∷ codes "board" ∷ []
 file_arguments Routes = codes "OLD" ∷ codes "NEW" ∷ codes "board" ∷ []
+file_arguments NamedRoutes = codes "OLD" ∷ codes "NEW" ∷ codes "board" ∷ []
 file_arguments (Legs form) = codes "OLD" ∷ codes "NEW" ∷ codes "board" ∷ []
 file_arguments Merge = codes "FILE" ∷ []
 file_arguments Beyond = codes "A" ∷ codes "B" ∷ []
@@ -144,6 +156,8 @@ file_arguments Cover = codes "A" ∷ codes "B" ∷ []
 file_arguments Digest = codes "A" ∷ []
 file_arguments Repair = codes "A" ∷ codes "DIGEST" ∷ []
 file_arguments Plan = codes "OLD" ∷ []
+file_arguments Split = []
+file_arguments Diff = codes "OLD" ∷ codes "NEW" ∷ []
 file_arguments Names = []
 file_arguments Audit = codes "OLD" ∷ codes "NEW" ∷ codes "LOG" ∷ []
 

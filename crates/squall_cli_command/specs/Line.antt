@@ -15,7 +15,7 @@ use Rattle.squall_cli_command.specs.declared.form.Form.{Form}
 use Rattle.squall_cli_command.specs.declared.inquiry.Inquiry.{Inquiry}
 use Rattle.squall_cli_command.specs.Rules.{file_rule, flag_rule}
 use Rattle.squall_cli_command.specs.Asking.{report_shape, board_shape, status_shape, picture_shape, watch_shape, route_shape, legs_shape, merge_shape, beyond_shape, digest_shape, repair_shape}
-use Rattle.squall_cli_command.specs.Asking.{plan_shape, key_shape, audit_shape}
+use Rattle.squall_cli_command.specs.Asking.{plan_shape, split_shape, diff_shape, key_shape, audit_shape}
 use Rattle.squall_cli_command.specs.Asking.{form_in, inquiry_in, word_arguments, file_arguments, words_in}
 use Rattle.squall_cli_command.specs.declared.stream.Stream.{Stream}
 use Rattle.squall_cli_command.specs.Streams.{stream_in, stream_files}
@@ -56,7 +56,7 @@ courses_app = with_subcommand (with_subcommand reports_app status_shape) picture
 abbrev pub watch_app : App
 watch_app = with_subcommand courses_app watch_shape
 
--- and those of its routes: `route OLD NEW [KEY]..` and `legs OLD NEW [BOUND..]`, both with `--board FILE`
+-- and those of its routes: `route OLD NEW [KEY].. [--name]` and `legs OLD NEW [BOUND..]`, both with `--board FILE`
 abbrev pub routes_app : App
 routes_app = with_subcommand (with_subcommand watch_app route_shape) legs_shape
 
@@ -72,9 +72,13 @@ digests_app = with_subcommand (with_subcommand boards_app digest_shape) repair_s
 abbrev pub names_app : App
 names_app = with_subcommand (with_subcommand digests_app plan_shape) key_shape
 
+-- and those of other plans: `split BELOW PART..` and `diff OLD NEW`
+abbrev pub edits_app : App
+edits_app = with_subcommand (with_subcommand names_app split_shape) diff_shape
+
 -- all commands: also that of logs, `audit OLD NEW LOG..`
 abbrev pub squall_app : App
-squall_app = with_subcommand names_app audit_shape
+squall_app = with_subcommand edits_app audit_shape
 
 -- `help` and what follows it are read as what follows it and `--help`: `help run` as `run --help`
 abbrev pub plain_words : List Text → List Text

@@ -1,5 +1,5 @@
 -- What is asked of standard input as it comes, as `clap` defines simple commands.
-use Rattle.std.specs.Prelude.{Bool, true, false, List, [], ◌∷◌, Option, Some, None, codes, ◌&&◌, if◌then◌else◌}
+use Rattle.std.specs.Prelude.{Bool, true, false, not, List, [], ◌∷◌, Option, Some, None, codes, ◌&&◌, if◌then◌else◌}
 use Rattle.std.specs.Str.{bytes_eq}
 use Rattle.clap.specs.Words.{Row, Text}
 use Rattle.squall_cli_command.specs.declared.form.Form.{Form}
@@ -14,9 +14,9 @@ is_input_alone [] = true
 is_input_alone (word ∷ []) = bytes_eq word (codes "-")
 is_input_alone (word ∷ other ∷ words) = false
 
--- keys are read from standard input if no word is a key, or `-` alone is one
+-- keys are read from standard input if no word is a key, or `-` alone is one, and words are no names
 abbrev pub reads_keys : List Row → Bool
-reads_keys rows = is_input_alone (values_in (codes "KEY") rows)
+reads_keys rows = not (is_set (codes "name") rows) && is_input_alone (values_in (codes "KEY") rows)
 
 -- a watch in that form, and whether it ends once the course is complete
 abbrev pub watch_asked : Form → Bool → WatchAsk

@@ -56,8 +56,11 @@ answers are the lines that a scenario answers to: route KEY. See: squall help ru
 Without a key, and with - as the only one, keys are read from standard input, one a line, and no
 file can be -. Each line is answered before the next read. The first bad line ends the answers.
 
+With --name each KEY is the name of a row, and the answer has the name. See: squall help key
+
 Example:
   squall route old.json new.json 2:0 6:0 --board board.bin
+  squall route --name old.json new.json 2:7:cart --board board.bin
   squall route old.json new.json --board board.bin <keys.txt";
 
 const LEGS: &str =
@@ -167,7 +170,7 @@ pub(crate) fn watch_command<'a>(alloc: Global) -> Result<Command<'a>, AllocError
     ))
 }
 
-/// `route OLD NEW [KEY].. [--board FILE]..`
+/// `route OLD NEW [KEY].. [--board FILE].. [--name]`
 pub(crate) fn route_command<'a>(alloc: Global) -> Result<Command<'a>, AllocError>
     ensures shape { IfOk result (λ c. shape_of c ≡ route_shape) }
     ensures globals { IfOk result (λ c. (fields_of c).has_globals ≡ false) }
@@ -183,7 +186,8 @@ pub(crate) fn route_command<'a>(alloc: Global) -> Result<Command<'a>, AllocError
         "KEY",
         "The keys; without one they are read from standard input",
     ))?
-    .arg(option(alloc, "board", "A file of frames, or -"))
+    .arg(option(alloc, "board", "A file of frames, or -"))?
+    .arg(flag(alloc, "name", "Takes each KEY as the name of a row"))
 }
 
 /// `legs OLD NEW [BOUND].. [--board FILE].. [--json]`

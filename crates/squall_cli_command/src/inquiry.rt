@@ -20,7 +20,7 @@ pub struct StatusAsk {
     pub is_judged: bool,
 }
 
-/// What is asked of board files, of a plan, of names and of logs.
+/// What is asked of board files, of plans, of names and of logs.
 #[derive(Clone, Copy, Debug, PartialEq, Eq)]
 pub enum Inquiry {
     /// The frame of a report, which the words write. The files of its plans are among them.
@@ -33,6 +33,8 @@ pub enum Inquiry {
     Picture,
     /// The routes of keys by the newest course, of the same files. The words are the keys.
     Routes,
+    /// The same of rows, whose names the words are.
+    NamedRoutes,
     /// Its legs, of the same files. The words are two bounds, or there are none.
     Legs(Form),
     /// What the board files tell, as frames.
@@ -48,6 +50,10 @@ pub enum Inquiry {
     /// The plan of the file with keys at other partitions. The words are two bounds and a partition,
     /// once or more.
     Plan,
+    /// The plan in which partitions share keys evenly. The words are a bound and partitions.
+    Split,
+    /// Which keys go to which partition from the plan of the first file to that of the second.
+    Diff,
     /// The keys of rows. The words are the names of these.
     Names,
     /// Whether a run of both plans has the logs of nodes.
@@ -83,12 +89,18 @@ fn status_of(matches: &ArgMatches) -> StatusAsk
     }
 }
 
-/// What a command asks of a plan, of names, or of logs. None if it is another command.
+/// What a command asks of plans, of names, or of logs. None if it is another command.
 fn other_of(name: &str) -> Option<Inquiry>
     ensures { result ≡ other_in name.now }
 {
     if name == "plan" {
         return Some(Inquiry::Plan);
+    }
+    if name == "split" {
+        return Some(Inquiry::Split);
+    }
+    if name == "diff" {
+        return Some(Inquiry::Diff);
     }
     if name == "key" {
         return Some(Inquiry::Names);
@@ -99,7 +111,7 @@ fn other_of(name: &str) -> Option<Inquiry>
     None
 }
 
-/// What a command asks of boards as frames, or of a plan, names or logs. None if it is another command.
+/// What a command asks of boards as frames, or of plans, names or logs. None if it is another command.
 fn exchange_of(name: &str, matches: &ArgMatches) -> Option<Inquiry>
     ensures { result ≡ exchange_in name.now (rows_of (found_of matches.now)) }
 {
@@ -135,7 +147,7 @@ pub(crate) fn inquiry_of(name: &str, matches: &ArgMatches) -> Option<Inquiry>
         return Some(Inquiry::Picture);
     }
     if name == "route" {
-        return Some(Inquiry::Routes);
+        return Some(by_flag(matches, "name", Inquiry::NamedRoutes, Inquiry::Routes));
     }
     if name == "legs" {
         return Some(Inquiry::Legs(form_of(matches)));
@@ -149,9 +161,10 @@ fn word_arguments(inquiry: Inquiry) -> &'static [&'static str]
 {
     match inquiry {
         Inquiry::Report => &["WORD"],
-        Inquiry::Routes => &["KEY"],
+        Inquiry::Routes | Inquiry::NamedRoutes => &["KEY"],
         Inquiry::Legs(_) => &["BOUND"],
         Inquiry::Plan => &["FROM", "TO", "PART"],
+        Inquiry::Split => &["BELOW", "PART"],
         Inquiry::Names => &["NAME"],
         _ => &[],
     }
@@ -162,14 +175,15 @@ fn file_arguments(inquiry: Inquiry) -> &'static [&'static str]
     ensures { words_of result.now ≡ file_arguments inquiry }
 {
     match inquiry {
-        Inquiry::Report | Inquiry::Names => &[],
+        Inquiry::Report | Inquiry::Split | Inquiry::Names => &[],
         Inquiry::Board(_) | Inquiry::Merge => &["FILE"],
         Inquiry::Status(_) | Inquiry::Picture => &["OLD", "NEW", "FILE", "board"],
-        Inquiry::Routes | Inquiry::Legs(_) => &["OLD", "NEW", "board"],
+        Inquiry::Routes | Inquiry::NamedRoutes | Inquiry::Legs(_) => &["OLD", "NEW", "board"],
         Inquiry::Beyond | Inquiry::Cover => &["A", "B"],
         Inquiry::Digest => &["A"],
         Inquiry::Repair => &["A", "DIGEST"],
         Inquiry::Plan => &["OLD"],
+        Inquiry::Diff => &["OLD", "NEW"],
         Inquiry::Audit => &["OLD", "NEW", "LOG"],
     }
 }

@@ -2,7 +2,8 @@
 
 ghost use Rattle.std.specs.Prelude.{◌≢◌, ◌⊎◌, ◌∷◌, [], List, true, false, codes};
 ghost use Rattle.clap.specs.Words.{Text};
-ghost use Rattle.squall_cli_command.specs.declared.inquiry.Inquiry.TheVariants.{Report, Board, Status, Routes, Legs, Beyond, Cover, Plan, Names, Audit};
+ghost use Rattle.squall_cli_command.specs.declared.inquiry.Inquiry.TheVariants.{Report, Board, Status, Routes, NamedRoutes, Legs, Beyond, Cover};
+ghost use Rattle.squall_cli_command.specs.declared.inquiry.Inquiry.TheVariants.{Plan, Split, Diff, Names, Audit};
 ghost use Rattle.squall_cli_command.specs.declared.stream.Stream.TheVariants.{Keys, Frames};
 ghost use Rattle.squall_cli_command.specs.declared.form.Form.TheVariants.{Lines, Json};
 ghost use Rattle.squall_cli_command.specs.Asking.{status_asked};
@@ -36,23 +37,30 @@ pub fn flags_of_boards()
 {}
 
 /// The files of a route and of legs are the two plans and those of `--board`, before or after the
-/// other words. The words are the keys and the bounds. Of a status the other words are files, too, and
+/// other words. The words are the keys or names, and the bounds. Of a status the other words are files, too, and
 /// come before those of `--board`.
 pub fn files_of_routes()
     ensures route { (name : Text) → Asks (name ∷ codes "route" ∷ codes "o" ∷ codes "n" ∷ codes "2:0" ∷ codes "--board" ∷ codes "b" ∷ codes "3:0" ∷ [])
         (ask Routes (codes "2:0" ∷ codes "3:0" ∷ []) (codes "o" ∷ codes "n" ∷ codes "b" ∷ [])) }
+    ensures names { (name : Text) → Asks (name ∷ codes "route" ∷ codes "--name" ∷ codes "o" ∷ codes "n" ∷ codes "a"
+        ∷ codes "--board" ∷ codes "b" ∷ codes "-" ∷ [])
+        (ask NamedRoutes (codes "a" ∷ codes "-" ∷ []) (codes "o" ∷ codes "n" ∷ codes "b" ∷ [])) }
     ensures legs { (name : Text) → Asks (name ∷ codes "legs" ∷ codes "--board" ∷ codes "b" ∷ codes "o" ∷ codes "n" ∷ [])
         (ask (Legs Lines) [] (codes "o" ∷ codes "n" ∷ codes "b" ∷ [])) }
     ensures status { (name : Text) → Asks (name ∷ codes "status" ∷ codes "--board" ∷ codes "b" ∷ codes "o" ∷ codes "n" ∷ codes "f" ∷ [])
         (ask (Status (status_asked Lines false false)) [] (codes "o" ∷ codes "n" ∷ codes "f" ∷ codes "b" ∷ [])) }
 {}
 
-/// The words after `plan` and its file are those of the inquiry, and those after `key` names, in their order.
+/// The words after `plan` and its file are those of the inquiry, those after `split` a bound and
+/// partitions, and those after `key` names, in their order. The words after `diff` are files.
 pub fn words_of_plans()
     ensures one { (name : Text) → Asks (name ∷ codes "plan" ∷ codes "o" ∷ codes "2:0" ∷ codes "3:0" ∷ codes "7" ∷ [])
         (ask Plan (codes "2:0" ∷ codes "3:0" ∷ codes "7" ∷ []) (codes "o" ∷ [])) }
     ensures more { (name : Text) → Asks (name ∷ codes "plan" ∷ codes "o" ∷ codes "2:0" ∷ codes "3:0" ∷ codes "7" ∷ codes "5:0" ∷ codes "end" ∷ codes "8" ∷ [])
         (ask Plan (codes "2:0" ∷ codes "3:0" ∷ codes "7" ∷ codes "5:0" ∷ codes "end" ∷ codes "8" ∷ []) (codes "o" ∷ [])) }
+    ensures split { (name : Text) → Asks (name ∷ codes "split" ∷ codes "8:0" ∷ codes "1-3" ∷ codes "7" ∷ [])
+        (ask Split (codes "8:0" ∷ codes "1-3" ∷ codes "7" ∷ []) []) }
+    ensures diff { (name : Text) → Asks (name ∷ codes "diff" ∷ codes "o" ∷ codes "n" ∷ []) (ask Diff [] (codes "o" ∷ codes "n" ∷ [])) }
     ensures key { (name : Text) → Asks (name ∷ codes "key" ∷ codes "2:7:a" ∷ codes "b" ∷ []) (ask Names (codes "2:7:a" ∷ codes "b" ∷ []) []) }
 {}
 

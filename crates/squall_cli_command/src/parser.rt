@@ -3,7 +3,7 @@
 ghost use Rattle.std.specs.Prelude.{◌≡◌, IfOk, false};
 ghost use Rattle.clap.specs.Words.{app_of, shape_of, rule_of};
 ghost use Rattle.clap.specs.declared.builder.command.Command.TheViews.{out-Command as fields_of};
-ghost use Rattle.squall_cli_command.specs.Line.{squall_app, names_app, digests_app, boards_app, routes_app, watch_app, courses_app};
+ghost use Rattle.squall_cli_command.specs.Line.{squall_app, edits_app, names_app, digests_app, boards_app, routes_app, watch_app, courses_app};
 ghost use Rattle.squall_cli_command.specs.Line.{reports_app, runs_app, plans_app, program_app};
 ghost use Rattle.squall_cli_command.specs.Line.{check_shape, course_shape, run_shape, race_shape};
 ghost use Rattle.squall_cli_command.specs.Rules.{file_rule};
@@ -14,7 +14,7 @@ use crate::courses::{
     legs_command, of_plans, picture_command, route_command, status_command, watch_command,
 };
 use crate::exchange::{beyond_command, digest_command, repair_command};
-use crate::other::{audit_command, key_command, plan_command};
+use crate::other::{audit_command, diff_command, key_command, plan_command, split_command};
 use clap::{Arg, ArgAction, Command};
 use std::alloc::{AllocError, Global};
 
@@ -24,7 +24,7 @@ const VERSION: &str = "-";
 const ABOUT: &str =
     "Says where each key is while a database moves from one partition plan to another.";
 
-const AFTER_HELP: &str = "Plans:        check, course, plan
+const AFTER_HELP: &str = "Plans:        check, course, plan, split, diff
 A move:       status, watch, picture, route, legs
 Board files:  report, board, merge, beyond, digest, repair
 Rows:         key
@@ -275,9 +275,19 @@ fn with_names<'a>(alloc: Global) -> Result<Command<'a>, AllocError>
     )
 }
 
+/// And with those of other plans.
+fn with_edits<'a>(alloc: Global) -> Result<Command<'a>, AllocError>
+    ensures { IfOk result (λ c. app_of c ≡ edits_app) }
+{
+    added(
+        added(with_names(alloc), split_command(alloc)),
+        diff_command(alloc),
+    )
+}
+
 /// The program's command line: also with that of logs.
 pub(crate) fn parser<'a>(alloc: Global) -> Result<Command<'a>, AllocError>
     ensures { IfOk result (λ c. app_of c ≡ squall_app) }
 {
-    added(with_names(alloc), audit_command(alloc))
+    added(with_edits(alloc), audit_command(alloc))
 }

@@ -1,9 +1,9 @@
 //! What is asked of standard input as it comes, and by which words.
 
-ghost use Rattle.std.specs.Prelude.{◌≡◌, map, string_bytes, IfOk};
+ghost use Rattle.std.specs.Prelude.{◌≡◌, codes, map, string_bytes, IfOk};
 ghost use Rattle.clap.specs.Words.{found_of, rows_of};
 ghost use Rattle.squall_cli_command.specs.Line.{words_of};
-ghost use Rattle.squall_cli_command.specs.Asking.{words_in};
+ghost use Rattle.squall_cli_command.specs.Asking.{values_in, words_in};
 ghost use Rattle.squall_cli_command.specs.Streams.{is_input_alone, reads_keys, watch_in, stream_in, stream_files};
 
 use crate::form::{Form, form_of, is_set};
@@ -51,15 +51,22 @@ fn is_input_alone(words: &[&str]) -> bool
     }
 }
 
-/// Whether keys are read from standard input, since no key is among what was parsed, or `-` alone.
+/// Whether no key is among what was parsed, or `-` alone.
 #[tactic(auto, using(crate::proofs::Rows::all_is))]
-fn reads_keys(matches: &ArgMatches) -> bool
-    ensures { result ≡ reads_keys (rows_of (found_of matches.now)) }
+fn lacks_keys(matches: &ArgMatches) -> bool
+    ensures { result ≡ is_input_alone (values_in (codes "KEY") (rows_of (found_of matches.now))) }
 {
     match matches.get_raw("KEY") {
         Some(words) => is_input_alone(words),
         None => true,
     }
+}
+
+/// Whether keys are read from standard input.
+fn reads_keys(matches: &ArgMatches) -> bool
+    ensures { result ≡ reads_keys (rows_of (found_of matches.now)) }
+{
+    !is_set(matches, "name") && lacks_keys(matches)
 }
 
 /// How the words ask to watch a course.

@@ -13,3 +13,7 @@ returns-clause-legs c = λ name. (refl, refl)
 pub returns-clause-status : goal.returns-clause-status
 unfolding clap_on_literals
 returns-clause-status c = λ name. (refl, refl)
+
+pub returns-clause-names : goal.returns-clause-names
+unfolding clap_on_literals
+returns-clause-names c = λ name. (refl, refl)

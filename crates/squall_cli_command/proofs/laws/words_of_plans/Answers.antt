@@ -10,6 +10,14 @@ pub returns-clause-more : goal.returns-clause-more
 unfolding clap_on_literals
 returns-clause-more c = λ name. (refl, refl)
 
+pub returns-clause-split : goal.returns-clause-split
+unfolding clap_on_literals
+returns-clause-split c = λ name. (refl, refl)
+
+pub returns-clause-diff : goal.returns-clause-diff
+unfolding clap_on_literals
+returns-clause-diff c = λ name. (refl, refl)
+
 pub returns-clause-key : goal.returns-clause-key
 unfolding clap_on_literals
 returns-clause-key c = λ name. (refl, refl)
