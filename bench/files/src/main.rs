@@ -80,7 +80,11 @@ fn status(words: &[String], only_waiting: bool) -> Result<Vec<u8>, Stop> {
 fn share(moves: &[Move], far: &[(u64, Option<Span>)]) -> u128 {
     let one = |span: Span, count: u64| u128::from(count) * 1000 / u128::from(span.1 - span.0);
     let sum: u128 = moves.iter().zip(far).map(|(it, (count, _))| one(it.span, *count)).sum();
-    if moves.is_empty() { 1000 } else { sum / moves.len() as u128 }
+    if moves.is_empty() {
+        1000
+    } else {
+        sum / moves.len() as u128
+    }
 }
 
 fn write_status(
