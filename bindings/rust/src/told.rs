@@ -74,7 +74,8 @@ impl Router {
     ///
     /// let plan = br#"{"plan":[{"part":1,"from":[0,0],"to":"end"}]}"#;
     /// let router = Router::open(1, plan, plan)?;
-    /// let line = "course 1 moves 0 of 0 sub-plans 0 of 0 open none loaded 0 of 0 keys share 1000/1000\n";
+    /// let line =
+    ///     "course 1 moves 0 of 0 sub-plans 0 of 0 open none loaded 0 of 0 keys share 1000/1000\n";
     /// assert_eq!(router.status_text()?, line);
     /// # Ok::<(), squall::Error>(())
     /// ```

@@ -35,7 +35,9 @@ fn lines_and_a_picture() -> Result<(), Error> {
     let mut router = Router::open(1, OLD, NEW)?;
     router.done(1, 0, 3)?;
     let text = router.status_text()?;
-    assert!(text.starts_with("course 1 moves 1 of 2 sub-plans 0 of 1 open none loaded 4294967296 of "));
+    assert!(
+        text.starts_with("course 1 moves 1 of 2 sub-plans 0 of 1 open none loaded 4294967296 of ")
+    );
     assert!(text.ends_with("move [6:0,9:0) 3 to 4 sub 0 not started\n"));
     let picture = router.picture()?;
     assert!(picture.starts_with("<svg ") && picture.ends_with("</svg>\n"));
