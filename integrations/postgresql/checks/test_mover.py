@@ -6,13 +6,15 @@ import io
 import threading
 import time
 from contextlib import closing
-from typing import Any, List, Tuple
+from http.client import HTTPConnection
+from typing import Any, Dict, List, Tuple
 
 import psycopg2
 
 from squall import Rank, Router
 from squall_bus import Node, open_bus
 from squall_postgresql import Job, Mover, Pace, Reports
+from squall_postgresql.metrics import Metrics, serve
 from squall_postgresql.pace import Progress
 
 from .deploy import PLANS, course, execute
@@ -164,6 +166,47 @@ class MoverTest(PartitionsTest):
         lines = self.source.progress()
         self.assertIn("partition 1: course 2", lines)
         self.assertIn("out [0:0,250:0) 3: done below 250:0, forgotten below 250:0", lines)
+
+    def test_a_mover_shows_what_it_counts(self) -> None:
+        job = silent_job(2)
+        with closing(open_bus(self.deployment.bus)) as bus, course(2) as plan:
+            reports = Reports(Node(bus, PLANS[0]))
+            job.report = reports.put
+            server = serve("127.0.0.1:0", Metrics(plan, job, reports).page)
+            self.addCleanup(server.server_close)
+            self.addCleanup(server.shutdown)
+            before = self.metrics(server.server_port)
+            self.mover(job).run()
+            self.assertTrue(reports.settle(60))
+            after = self.metrics(server.server_port)
+        keys = sum(it.hi - it.lo for it in course(2).moves())
+        for page, loaded in ((before, 0), (after, keys)):
+            self.assertEqual(page["squall_course"], 2)
+            self.assertEqual(
+                (page["squall_moving_keys"], page["squall_loaded_keys"]), (keys, loaded)
+            )
+        self.assertEqual(before["squall_moved_rows_total"], 0)
+        self.assertEqual(after["squall_moved_rows_total"], job.progress.rows)
+        self.assertEqual(after["squall_moved_chunks_total"], job.progress.chunks)
+        self.assertEqual(after["squall_reports_waiting"], 0)
+        self.assertEqual(after["squall_rate_limit_rows"], 0)
+
+    def metrics(self, port: int) -> Dict[str, int]:
+        """What a port shows. Another path is not there."""
+        with closing(HTTPConnection("127.0.0.1", port, timeout=60)) as client:
+            client.request("GET", "/")
+            with client.getresponse() as answer:
+                self.assertEqual((answer.status, answer.read()), (404, b"/metrics\n"))
+        with closing(HTTPConnection("127.0.0.1", port, timeout=60)) as client:
+            client.request("GET", "/metrics")
+            lines = client.getresponse().read().decode().splitlines()
+        pairs = [it.split(" ") for it in lines if not it.startswith("#")]
+        return {name: int(value) for name, value in pairs}
+
+    def test_where_metrics_are_is_a_port(self) -> None:
+        for wrong in ("9000", "host:", "host:x"):
+            with self.assertRaisesRegex(ValueError, "not of the form HOST:PORT"):
+                serve(wrong, str)
 
     def test_an_address_that_is_missing_is_named(self) -> None:
         addresses = {it: url for it, url in self.deployment.addresses.items() if it != 2}

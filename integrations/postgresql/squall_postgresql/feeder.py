@@ -77,6 +77,7 @@ class Feeder:
         return step
 
     def _report(self, move: Move, keys: Span) -> None:
+        self._job.progress.reach(move, keys.hi)
         self._job.report(frame.loaded(self._job.number, move.sub, move.dest, keys.lo, keys.hi))
         self._job.after("report")
 

@@ -55,6 +55,7 @@ class Mover:
                 act()
                 return
             except LostError as error:
+                self._job.progress.lost += 1
                 if chunks != self._job.progress.chunks:
                     until, chunks = time.monotonic() + patience, self._job.progress.chunks
                 if time.monotonic() > until:

@@ -5,7 +5,9 @@ from __future__ import annotations
 import sys
 import threading
 import time
-from typing import NamedTuple, Optional, TextIO
+from typing import Dict, NamedTuple, Optional, TextIO
+
+from squall import Move, Rank
 
 
 class Pace(NamedTuple):
@@ -40,8 +42,10 @@ class Progress:
         self._each = each
         self._lock = threading.Lock()
         self._began = self._next = time.monotonic()
-        #: Rows, chunks and steps of this run.
-        self.rows = self.chunks = 0
+        #: Rows and chunks of this run, and how often it has begun again.
+        self.rows = self.chunks = self.lost = 0
+        #: Up to where the keys of a move are known to be loaded, by the move's first key.
+        self._reached: Dict[Rank, Rank] = {}
 
     def add(self, number: int, rows: int) -> None:
         """A chunk was loaded."""
@@ -52,6 +56,16 @@ class Progress:
             if now >= self._next + self._each:
                 self._next = now
                 self.say(f"course {number}: {self.rows} rows in {self.chunks} chunks")
+
+    def reach(self, move: Move, edge: Rank) -> None:
+        """The keys of a move are loaded up to there."""
+        with self._lock:
+            self._reached[move.lo] = max(edge, self._reached.get(move.lo, edge))
+
+    def loaded(self) -> int:
+        """How many keys are known to be loaded."""
+        with self._lock:
+            return sum(edge - lo for lo, edge in self._reached.items())
 
     def say(self, text: str) -> None:
         """Says a line."""

@@ -15,6 +15,7 @@ from squall_bus import Node, open_bus
 
 from .errors import LostError, StepError
 from .feeder import Job
+from .metrics import Metrics, serve
 from .mover import Mover
 from .pace import Pace
 from .partition import Partition
@@ -75,6 +76,9 @@ def _move_words(one: argparse.ArgumentParser) -> None:
     one.add_argument("--pause", type=float, default=0.0, help="seconds after each chunk")
     one.add_argument("--rate", type=float, default=0.0, help="rows a second of each source")
     one.add_argument("--patience", type=float, default=60.0, help="seconds without any progress")
+    one.add_argument(
+        "--metrics", metavar="HOST:PORT", help="where Prometheus reads /metrics while rows move"
+    )
     one.add_argument("--dry-run", action="store_true", help="shows the moves, and changes nothing")
 
 
@@ -119,6 +123,8 @@ def _move(options: Any) -> int:
         (lambda frame: None) if reports is None else reports.put,
         Pace(options.chunk, options.pause, options.rate),
     )
+    if options.metrics is not None:
+        serve(options.metrics, Metrics(course, job, reports).page)
     Mover(course, dict(options.part), job).run(options.patience)
     progress = job.progress
     print(f"course {options.number}: moved {progress.rows} rows in {progress.took():.1f} s")

@@ -5,7 +5,7 @@ from __future__ import annotations
 import queue
 import threading
 import time
-from typing import Optional
+from typing import Optional, Tuple
 
 from squall_bus import Node
 
@@ -36,6 +36,14 @@ class Reports(threading.Thread):
                 # Whoever waits for the end hears of it.
                 self._fault = error
             self._frames.task_done()
+
+    def waiting(self) -> int:
+        """How many frames the bus has not taken yet."""
+        return self._frames.unfinished_tasks
+
+    def counts(self) -> Tuple[int, int, int]:
+        """The frames that the node has taken and refused, and those of repairs that it has sent."""
+        return self._node.taken, self._node.refused, self._node.repairs
 
     def settle(self, seconds: float) -> bool:
         """Waits until the bus has all frames: whether it has them in that time."""
