@@ -16,15 +16,20 @@ pub type Code = [u8; CODE];
 
 /// The code of pieces under a key, by HMAC-SHA-256. Each piece has its length before it, as 8 bytes from the highest
 /// one on.
+pub fn code(key: &[u8], pieces: &[&[u8]]) -> Code {
+    let lengths: Vec<[u8; 8]> = pieces.iter().map(|piece| (piece.len() as u64).to_be_bytes()).collect();
+    let all: Vec<&[u8]> =
+        lengths.iter().zip(pieces).flat_map(|(length, piece)| [&length[..], piece]).collect();
+    hmac(key, &all)
+}
+
+/// The HMAC-SHA-256 of pieces, one after the other, under a key.
 ///
 /// It is made of SHA-256 itself, which needs nothing that OpenSSL takes down when a program ends: other threads may
 /// still be at it then.
-pub fn code(key: &[u8], pieces: &[&[u8]]) -> Code {
-    let inner = pieces.iter().fold(begun(key, 0x36), |mut inner, piece| {
-        inner.update(&(piece.len() as u64).to_be_bytes());
-        inner.update(piece);
-        inner
-    });
+pub fn hmac(key: &[u8], pieces: &[&[u8]]) -> Code {
+    let mut inner = begun(key, 0x36);
+    pieces.iter().for_each(|piece| inner.update(piece));
     let mut outer = begun(key, 0x5c);
     outer.update(&inner.finish());
     outer.finish()

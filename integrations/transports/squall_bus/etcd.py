@@ -9,12 +9,13 @@ from base64 import b64decode, b64encode
 from hashlib import sha256
 from http.client import HTTPConnection, HTTPException
 from itertools import cycle
-from typing import Any, Callable, Dict, Iterator, List, Optional
+from typing import Any, Callable, Dict, Iterable, Iterator, List, Optional
 from urllib.parse import SplitResult, unquote
 
 from .bus import BusError, KeepingBus, Merged, Message, TooLarge
 from .etcd_watch import Watch
 from .pieces import is_delta, joined
+from .seal import Letters
 from .sockets import Server, servers
 
 Json = Dict[str, Any]
@@ -34,10 +35,12 @@ class EtcdBus(KeepingBus):
     Below `NAME/frames/` are the frames, and below `NAME/courses/` the numbers that were drawn.
     """
 
-    def __init__(self, url: SplitResult) -> None:
+    def __init__(self, url: SplitResult, secret: Optional[bytes] = None) -> None:
         """A bus by an address `etcd://[USER:PASSWORD@]HOST[:PORT][,..][/NAME]`.
 
         It connects to the first server, and after a fault to the next one.
+
+        With a secret each frame is sealed, and one of anybody else is passed over.
         """
         self._servers = cycle(servers(url, _PORT))
         self._server: Server = ("", 0)
@@ -45,10 +48,16 @@ class EtcdBus(KeepingBus):
         self._headers: Dict[str, str] = {}
         name = url.path.strip("/") or "squall"
         self._frames, self._courses = f"{name}/frames/".encode(), f"{name}/courses/".encode()
+        self._letters = Letters(secret, name)
         self._connection: Optional[HTTPConnection] = None
         self._watch: Optional[Watch] = None
         #: Transactions that were refused, since another program had drawn the number.
         self.refused = 0
+
+    @property
+    def foreign(self) -> int:
+        """How many frames were passed over."""
+        return self._letters.foreign
 
     def connect(self) -> None:
         if self._connection is None:
@@ -75,7 +84,7 @@ class EtcdBus(KeepingBus):
         self._connection = self._watch = None
 
     def send(self, frame: bytes) -> None:
-        self._ask("kv/put", {"key": _text(self._key(frame)), "value": _text(frame)})
+        self._ask("kv/put", {"key": _text(self._key(frame)), "value": _text(self._closed(frame))})
 
     def hear(self, seconds: float) -> List[Message]:
         if self._watch is None:
@@ -91,14 +100,14 @@ class EtcdBus(KeepingBus):
         events = found.get("events", [])
         # The answer's own revision may be ahead of the events that are still to come.
         self.place = max([self.place, *(int(it["kv"]["mod_revision"]) for it in events)])
-        return [Message(_value(it["kv"])) for it in events if it.get("type") != "DELETE"]
+        return self._opened(it["kv"] for it in events if it.get("type") != "DELETE")
 
     def _begin(self) -> List[Message]:
         """Watches what comes after `place`. If there is no place, it reads all keys first."""
         now = self._revision()
         messages: List[Message] = []
         if not 0 < self.place <= now:
-            messages = [Message(_value(it)) for it in self._list(now)]
+            messages = self._opened(self._list(now))
             self.place = now
         keys = {**_range(self._frames), "start_revision": str(self.place + 1)}
         self._watch = Watch(self._server, _PATIENCE, keys, self._headers)
@@ -107,7 +116,7 @@ class EtcdBus(KeepingBus):
     def merge(self) -> Merged:
         """The board is there before the first other key goes."""
         old = list(self._list(self._revision()))
-        good = [frame for frame in map(_value, old) if is_delta(frame)]
+        good = [it.frame for it in self._opened(old) if is_delta(it.frame)]
         board = joined(good)
         for frame in board:
             self.send(frame)
@@ -136,7 +145,7 @@ class EtcdBus(KeepingBus):
             puts = {key: mine}
             if issue is not None:
                 frame = issue(number)
-                puts[self._key(frame)] = frame
+                puts[self._key(frame)] = self._closed(frame)
             if self._put_new(key, puts):
                 return number
             self.refused += 1
@@ -160,6 +169,15 @@ class EtcdBus(KeepingBus):
     def _key(self, frame: bytes) -> bytes:
         """The key of a frame. The same bytes have the same key, so it may be sent again."""
         return self._frames + sha256(frame).hexdigest()[:32].encode()
+
+    def _closed(self, frame: bytes) -> bytes:
+        """The value of a frame's key."""
+        return self._letters.closed(self._frames.decode(), frame)
+
+    def _opened(self, entries: Iterable[Json]) -> List[Message]:
+        """The frames of keys, but for those that are passed over."""
+        opened = (self._letters.opened(self._frames.decode(), _value(it)) for it in entries)
+        return [Message(it) for it in opened if it is not None]
 
     def _course(self, number: int) -> bytes:
         return self._courses + b"%010d" % number

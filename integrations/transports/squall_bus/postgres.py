@@ -4,15 +4,18 @@ from __future__ import annotations
 
 from contextlib import contextmanager
 from pathlib import Path
-from typing import Any, Iterator, List
+from typing import Any, Iterator, List, Optional
 
 import psycopg2
 
 from .bus import BusError, KeepingBus, Merged, Message, TooLarge
 from .pieces import is_delta, joined
+from .seal import Letters
 from .sockets import is_readable
 
 _SETUP = Path(__file__).with_name("postgres.sql")
+#: The deployment's name, with which the table's begins, and the table.
+_NAME, _TABLE = "squall", "squall_frames"
 #: How many frames are read at once.
 _AT_ONCE = 64
 #: A server that does not answer is given up after some ten seconds.
@@ -29,12 +32,21 @@ _OPTIONS = {
 class PostgresBus(KeepingBus):
     """Keeps each frame in a row. `place` is the id of the row that was read last."""
 
-    def __init__(self, url: str) -> None:
-        """A bus in the database of this address, as libpq reads it: `postgres://..`."""
+    def __init__(self, url: str, secret: Optional[bytes] = None) -> None:
+        """A bus in the database of this address, as libpq reads it: `postgres://..`.
+
+        With a secret each frame is sealed, and one of anybody else is passed over.
+        """
         self._url = url
+        self._letters = Letters(secret, _NAME)
         self._connection: Any = None
         #: Whether nothing was read over this connection.
         self._is_new = True
+
+    @property
+    def foreign(self) -> int:
+        """How many frames were passed over."""
+        return self._letters.foreign
 
     def connect(self) -> None:
         if self._connection is None:
@@ -57,7 +69,7 @@ class PostgresBus(KeepingBus):
 
     def send(self, frame: bytes) -> None:
         with _faults():
-            self._do("call squall_append(array[%s::bytea])", frame)
+            self._do("call squall_append(array[%s::bytea])", self._letters.closed(_TABLE, frame))
 
     def hear(self, seconds: float) -> List[Message]:
         with _faults():
@@ -66,17 +78,24 @@ class PostgresBus(KeepingBus):
                 rows = self._rows()
         if rows:
             self.place = rows[-1][0]
-        return [Message(bytes(frame)) for _, frame in rows]
+        opened = (self._opened(frame, answered) for _, frame, answered in rows)
+        return [Message(frame) for frame in opened if frame is not None]
 
     def merge(self) -> Merged:
         """Does it in one transaction."""
         with _faults(), self._transaction():
             self._do("call squall_turn()")
-            rows = self._ask("delete from squall_frames returning frame")
-            good = [frame for frame in (bytes(it[0]) for it in rows) if is_delta(frame)]
+            rows = self._ask("delete from squall_frames returning frame, re")
+            opened = (self._opened(frame, answered) for frame, answered in rows)
+            good = [frame for frame in opened if frame is not None and is_delta(frame)]
             board = joined(good)
-            self._do("call squall_append(%s::bytea[])", board)
+            closed = [self._letters.closed(_TABLE, frame) for frame in board]
+            self._do("call squall_append(%s::bytea[])", closed)
         return Merged(len(rows), len(rows) - len(good), len(board))
+
+    def _opened(self, frame: Any, answered: Optional[str]) -> Optional[bytes]:
+        """The frame of a row, or None if it is passed over. A repair names what it answers."""
+        return self._letters.opened(_TABLE, bytes(frame), answered)
 
     @contextmanager
     def _transaction(self) -> Iterator[None]:
@@ -94,7 +113,7 @@ class PostgresBus(KeepingBus):
             self.place = self.place if self.place <= newest else 0
             self._is_new = False
         return self._ask(
-            "select id, frame from squall_frames where id > %s order by id limit %s",
+            "select id, frame, re from squall_frames where id > %s order by id limit %s",
             self.place,
             _AT_ONCE,
         )

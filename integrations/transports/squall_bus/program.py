@@ -88,7 +88,7 @@ def _bus_words() -> argparse.ArgumentParser:
     words = argparse.ArgumentParser(add_help=False)
     schemes = "nats://.., tls://.., jetstream://.., postgres://.. or etcd://.."
     words.add_argument("bus", metavar="BUS", help=schemes)
-    about = "NATS, JetStream: the secret of the deployment, which seals all messages"
+    about = "the secret of the deployment, which seals all messages"
     words.add_argument("--secret-file", type=Path, metavar="FILE", help=about)
     tls = words.add_argument_group("TLS, for NATS and JetStream")
     tls.add_argument("--tls-bus", action="store_true", help="never in the clear, as with tls://")

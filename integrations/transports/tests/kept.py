@@ -5,7 +5,7 @@ from __future__ import annotations
 import subprocess
 import sys
 import threading
-from typing import Any, List
+from typing import Any, List, Optional
 
 from squall import Rank, Router, frame
 from squall_bus import Node, open_bus
@@ -26,9 +26,9 @@ class Kept(CourseTest):
     #: Whether servers may still be choosing a leader when a merge is asked for.
     may_choose = False
 
-    def bus(self) -> Any:
-        """One that is connected."""
-        bus = open_bus(self.url)
+    def bus(self, secret: Optional[bytes] = None) -> Any:
+        """One that is connected, with that secret."""
+        bus = open_bus(self.url, secret=secret)
         self.addCleanup(bus.close)
         bus.connect()
         return bus
@@ -125,6 +125,21 @@ class Merged(Kept):
         self.assertEqual(bus.merge(), (6, 4, 1))
         wanted = joined([FRAMES[0], FRAMES[2]])
         self.assertEqual(self.heard(self.bus(), len(wanted)), wanted)
+
+    def test_what_is_not_sealed_is_passed_over(self) -> None:
+        """All that others have sent goes with a merge, and nothing else."""
+        secrets = (b"a" * 16, b"a" * 16, b"b" * 16, None)
+        one, same, other, plain = (self.bus(it) for it in secrets)
+        other.send(FRAMES[0])
+        plain.send(FRAMES[3])
+        for data in FRAMES[1:3]:
+            one.send(data)
+        found = self.heard(same, 2)
+        self.assertEqual(found if self.is_ordered else sorted(found), FRAMES[1:3])
+        self.assertEqual(self.heard(other, 1), FRAMES[:1])
+        self.assertEqual((same.foreign, other.foreign, plain.foreign), (2, 3, 0))
+        self.assertEqual(one.merge(), (4, 2, 1))
+        self.assertEqual(self.heard(self.bus(secrets[0]), 1), joined(FRAMES[1:3]))
 
     def test_a_reader_reads_on_from_its_place(self) -> None:
         """Also if what the bus keeps is younger than the place."""

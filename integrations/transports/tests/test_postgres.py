@@ -17,6 +17,7 @@ from squall_bus.pieces import ANY
 
 from . import kept
 from .kept import FRAMES
+from .programs import HERE
 from .servers import Postgres, find
 
 IS_THERE = psycopg2 is not None and find("postgres") is not None
@@ -49,6 +50,11 @@ class PostgresTest(kept.Merged):
 
     def test_a_reader_reads_on_after_all_mishaps(self) -> None:
         self.works_in_spite_of_mishaps()
+
+    def test_programs_for_redis_make_the_same_table(self) -> None:
+        folder = HERE.parent / "redis" / "src" / "bus"
+        text = (HERE / "squall_bus" / "postgres.sql").read_text("utf-8")
+        self.assertEqual(text, (folder / "postgres.sql").read_text("utf-8"))
 
     def test_ids_rise_in_the_order_of_commits(self) -> None:
         reader, writer = self.bus(), self.bus()

@@ -1,9 +1,11 @@
-//! What carries frames: the streams of a Redis server, NATS, or a stream of JetStream.
+//! What carries frames: the streams of a Redis server, NATS, a stream of JetStream, a table of PostgreSQL, or keys of etcd.
 
 use super::entry::Heard;
+use super::etcd::Etcd;
 use super::jetstream::JetStream;
 use super::nats::Nats;
 use super::nats_address::{Address, Keeper};
+use super::postgres::Postgres;
 use super::redis::Redis;
 use crate::args::Args;
 use crate::fault::Done;
@@ -26,6 +28,11 @@ pub trait Bus: Send + Sync {
 
     /// The most bytes that a frame may have.
     fn most(&self) -> usize;
+
+    /// The most bytes that a digest may have.
+    fn most_shown(&self) -> usize {
+        self.most()
+    }
 
     /// Sends frames to all nodes, or as the answer to a digest. A bus that keeps frames has them then.
     ///
@@ -61,6 +68,12 @@ pub trait Ears {
 pub fn open(args: &Args, hears_all: bool) -> Done<Box<dyn Bus>> {
     let addr = args.need("bus")?;
     let name = args.get("streams").unwrap_or("squall");
+    if let Some(postgres) = Postgres::new(addr, name, args)? {
+        return Ok(Box::new(postgres));
+    }
+    if let Some(etcd) = Etcd::new(addr, name, args)? {
+        return Ok(Box::new(etcd));
+    }
     let password = args.password("bus-password-file")?;
     let secret = args.secret()?;
     let Some(address) = Address::read(addr, name, password.as_deref())? else {

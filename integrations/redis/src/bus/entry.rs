@@ -7,6 +7,7 @@ use crate::resp::Value;
 use std::time::Instant;
 
 /// An entry of a stream: `from NAME mac CODE frame BYTES`, and of a repair also `re ID`.
+#[derive(Clone)]
 pub struct Entry {
     /// Its place in the stream.
     pub id: String,

@@ -12,7 +12,7 @@ use super::nats::{Nats, FRAMES};
 use super::nats_address::json;
 use super::nats_link::Talk;
 use super::nats_text::{message, number_of, text_of, Message};
-use super::nats_wire::PATIENCE;
+use super::wire::PATIENCE;
 use crate::args::Args;
 use crate::dice::Dice;
 use crate::fault::{Done, Fault, Trying};

@@ -1,5 +1,6 @@
 //! Addresses of NATS servers, as `--bus` has them, with JetStream or without.
 
+use super::address::Parts;
 use crate::fault::{Done, Fault};
 
 /// The port of a server that has none in its address.
@@ -49,21 +50,16 @@ impl Address {
         let Some((scheme, rest, keeper, is_secure)) = SCHEMES.into_iter().find_map(strip) else {
             return Ok(None);
         };
-        let rest = rest.trim_end_matches('/');
-        let (rest, name) = rest.split_once('/').unwrap_or((rest, name));
-        let (user, hosts) = match rest.rsplit_once('@') {
-            Some((user, hosts)) => (Some(user), hosts),
-            None => (None, rest),
-        };
-        if name.is_empty() || name.contains(|it: char| it <= ' ' || "*>".contains(it)) || !are_hosts(hosts) {
-            return Err(Fault::new(format!(
-                "--bus {addr}: not of the form {scheme}[USER@]HOST[:PORT],..[/NAME]"
-            )));
-        }
+        let is_name =
+            |name: &&str| !name.is_empty() && !name.contains(|it: char| it <= ' ' || "*>".contains(it));
+        let parts = Parts::read(rest, PORT)?.filter(|parts| is_name(&parts.name.unwrap_or(name)));
+        let parts = parts.ok_or_else(|| {
+            Fault::new(format!("--bus {addr}: not of the form {scheme}[USER@]HOST[:PORT],..[/NAME]"))
+        })?;
         Ok(Some(Address {
-            servers: hosts.split(',').map(with_port).collect(),
-            name: name.to_string(),
-            login: login(user, password)?,
+            servers: parts.servers,
+            name: parts.name.unwrap_or(name).to_string(),
+            login: login(parts.user, password)?,
             is_secure,
             keeper,
         }))
@@ -79,27 +75,8 @@ impl Address {
     }
 }
 
-fn are_hosts(hosts: &str) -> bool {
-    hosts
-        .split(',')
-        .all(|host| !host.is_empty() && !host.starts_with(':') && !host.contains(char::is_whitespace))
-}
-
-/// A host with its port. An address of IPv6 is in brackets.
-fn with_port(host: &str) -> String {
-    let name = host.rsplit_once(']').map_or(host, |(_, rest)| rest);
-    if name.contains(':') {
-        host.to_string()
-    } else {
-        format!("{host}:{PORT}")
-    }
-}
-
 /// What says who this is.
 fn login(user: Option<&str>, password: Option<&str>) -> Done<String> {
-    if user.is_some_and(|user| user.contains(':')) {
-        return Err(Fault::new("a password belongs into --bus-password-file, and not into --bus"));
-    }
     match (user, password) {
         (Some(user), Some(password)) => Ok(format!(r#","user":{},"pass":{}"#, json(user), json(password))),
         (None, Some(token)) => Ok(format!(r#","auth_token":{}"#, json(token))),

@@ -2,12 +2,10 @@
 
 use super::nats_address::json;
 use super::nats_text::{is_set, number_of, Message, Op, Parser};
-use super::nats_wire::{Wire, PATIENCE};
+use super::servers::{Server, Servers};
+use super::wire::{Wire, PATIENCE};
 use crate::args::Args;
 use crate::fault::{Done, Fault, Trying};
-use crate::keep_alive::KeepAlive;
-use crate::tls::Peer;
-use std::sync::atomic::{AtomicUsize, Ordering::Relaxed};
 use std::sync::{Arc, Condvar, Mutex, MutexGuard, PoisonError};
 use std::time::{Duration, Instant};
 
@@ -18,22 +16,13 @@ const LEAST: usize = 1 << 10;
 
 /// The servers of a bus. One of them is connected to.
 pub struct Hosts {
-    all: Vec<Host>,
-    /// Which of them is connected to next.
-    next: AtomicUsize,
+    all: Servers,
     /// Whether nothing may go in the clear, also if a server would take it.
     is_secure: bool,
-    keep_alive: KeepAlive,
     /// What says who this is, as members of a JSON object.
     login: String,
     link: Mutex<Link>,
     up: Condvar,
-}
-
-/// A server: its `HOST:PORT`, and how it is connected to by TLS.
-struct Host {
-    addr: String,
-    peer: Peer,
 }
 
 /// The connection, for writers.
@@ -47,7 +36,7 @@ struct Link {
 /// The connection, for its one reader. The writers have none any more once it is dropped.
 pub struct Talk<'a> {
     hosts: &'a Hosts,
-    host: &'a Host,
+    host: &'a Server,
     wire: Arc<Wire>,
     parser: Parser,
     /// When the server has said anything last.
@@ -63,12 +52,9 @@ impl Hosts {
     ///
     /// A file of certificates or keys can't be read, or `--keep-alive` is wrong.
     pub fn new(servers: Vec<String>, login: String, is_secure: bool, args: &Args) -> Done<Hosts> {
-        let host = |addr: String| Peer::new(args, &addr).map(|peer| Host { addr, peer });
         Ok(Hosts {
-            all: servers.into_iter().map(host).collect::<Done<_>>()?,
-            next: AtomicUsize::new(0),
+            all: Servers::new(servers, args)?,
             is_secure: is_secure || args.has("tls-bus"),
-            keep_alive: KeepAlive::of(args)?,
             login,
             link: Mutex::default(),
             up: Condvar::new(),
@@ -81,7 +67,7 @@ impl Hosts {
 
     /// Reads the files of certificates again.
     pub fn renew(&self, args: &Args) -> Done<()> {
-        self.all.iter().try_for_each(|host| host.peer.renew(args))
+        self.all.renew(args)
     }
 
     /// The most bytes of a message: what the server takes, or until there is one what each takes.
@@ -97,27 +83,16 @@ impl Hosts {
     ///
     /// None of them does, or that fails at each of them. The words are the same until one of them changes.
     pub fn connect(&self, wanted: &[String], begin: impl Fn(&mut Talk<'_>) -> Done<()>) -> Done<Talk<'_>> {
-        let mut faults = Vec::new();
-        for _ in &self.all {
-            let host = &self.all[self.next.fetch_add(1, Relaxed) % self.all.len()];
-            match self.connect_to(host, wanted, &begin).trying(|| host.addr.clone()) {
-                Ok(talk) => return Ok(talk),
-                Err(fault) => faults.push(fault),
-            }
-        }
-        let words: Vec<String> = faults.iter().map(ToString::to_string).collect();
-        let words = words.join(", ");
-        // One that is away may let it in later.
-        Err(if faults.iter().any(Fault::is_lost) { Fault::lost(words) } else { Fault::new(words) })
+        self.all.first(|host| self.connect_to(host, wanted, &begin))
     }
 
     fn connect_to<'a>(
         &'a self,
-        host: &'a Host,
+        host: &'a Server,
         wanted: &[String],
         begin: impl Fn(&mut Talk<'_>) -> Done<()>,
     ) -> Done<Talk<'a>> {
-        let wire = Arc::new(Wire::connect(&host.addr, self.keep_alive)?);
+        let wire = Arc::new(host.connect()?);
         let (parser, heard) = (Parser::default(), Instant::now());
         let mut talk = Talk { hosts: self, host, wire, parser, heard, is_known: false };
         let most = talk.greet(wanted)?;

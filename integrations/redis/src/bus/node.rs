@@ -235,13 +235,19 @@ impl Node {
     /// limit: the bus leaves out what it does not take, and says so.
     pub(super) fn within(
         &self,
+        most: usize,
         make: impl Fn(&mut Router, usize) -> Result<Vec<Vec<u8>>, Error>,
     ) -> Result<Vec<Vec<u8>>, Error> {
         let mut router = lock(&self.router);
-        match make(&mut router, self.bus.most()) {
+        match make(&mut router, most) {
             Err(Error::TooLong) => make(&mut router, usize::MAX),
             frames => frames,
         }
+    }
+
+    /// The digest that this node shows.
+    fn digest(&self) -> Result<Vec<Vec<u8>>, Error> {
+        self.within(self.bus.most_shown(), |router, limit| Ok(router.digest_within(limit)?.collect()))
     }
 
     fn publish(&self, router: &Router) -> Done<()> {
@@ -320,7 +326,7 @@ impl Node {
             return;
         }
         let now = Instant::now();
-        let own = lock(&self.router).digest().map(|frames| frames.collect::<Vec<_>>()).unwrap_or_default();
+        let own = self.digest().unwrap_or_default();
         lock(&self.peers).take(&digests, &own, now);
         let dropped = self.agenda.take(digests, &given, dice);
         self.counts.dropped.fetch_add(dropped as u64, Relaxed);
@@ -333,7 +339,7 @@ impl Node {
         loop {
             let due = self.agenda.wait(shown, pause);
             if shown.elapsed() >= AT_ONCE && (due.is_none() || shown.elapsed() >= ROUND) {
-                let digest = self.within(|router, limit| Ok(router.digest_within(limit)?.collect()))?;
+                let digest = self.digest()?;
                 self.bus.show(&self.name, &digest)?;
                 (shown, pause) = (Instant::now(), ROUND);
                 self.pay()?;
@@ -347,7 +353,7 @@ impl Node {
 
     /// Answers a digest, if this node knows more.
     fn repair(&self, answer: &Answer) -> Done<()> {
-        let repaired = self.within(|router, limit| {
+        let repaired = self.within(self.bus.most(), |router, limit| {
             router.hear(&answer.digest)?;
             Ok(router.repair_within(limit)?.collect())
         });

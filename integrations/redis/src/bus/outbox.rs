@@ -71,7 +71,8 @@ impl Node {
         let Some(debt) = self.reach.debt() else {
             return Ok(());
         };
-        let frames = self.within(|router, limit| Ok(router.board_within(limit)?.collect()))?;
+        let frames =
+            self.within(self.bus.most(), |router, limit| Ok(router.board_within(limit)?.collect()))?;
         self.bus.write(&self.name, &frames, None)?;
         self.reach.pay(debt);
         Ok(())

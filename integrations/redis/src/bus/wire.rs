@@ -1,4 +1,4 @@
-//! A connection to a NATS server, in the clear or by TLS. One thread reads it, and others write.
+//! A connection to a server of a bus, in the clear or by TLS. One thread reads it, and others write.
 
 use crate::fault::{Done, Fault};
 use crate::keep_alive::KeepAlive;
